@@ -1,0 +1,19 @@
+//! What every other crate speaks of: lists that contracts see as lists, atoms and what is said of them, the limits of a run,
+//! and the one error that any call may give, want of memory.
+//!
+//! It stands at the bottom, so nothing here knows of documents, interpretations or bytes.
+#![tactic(auto)]
+
+mod answer;
+mod atom;
+mod limits;
+mod memory;
+mod seq;
+#[cfg(test)]
+mod tests;
+
+pub use answer::Answer;
+pub use atom::Atom;
+pub use limits::Limits;
+pub use memory::Memory;
+pub use seq::Seq;

@@ -1,0 +1,15 @@
+use Rattle.std.proofs.Common.{◌≡◌, false, ◌<◌, ◌≤◌, ◌-◌, length, take}
+use Rattle.std.specs.Io.KnownBytes.{Appends}
+use Rattle.cd_io.proofs.writing.write_all.Given as goal
+
+abbrev pub invariant-loop-done : goal.invariant-loop-done
+invariant-loop-done g l = record {
+  within : l.done ≤ length l.bytes;
+  out : Appends (g.K.Sink.written l.initial.sink) (g.K.Sink.written l.sink) (take l.done l.bytes);
+  later : g.K.Sink.faults l.initial.sink ≤ g.K.Sink.faults l.sink;
+  nothing : l.done ≡ 0 → l.sink ≡ l.initial.sink;
+  unfinished : 0 < l.done → g.K.Sink.finished l.sink ≡ false;
+}
+
+abbrev pub decreases-loop-done : goal.decreases-loop-done
+decreases-loop-done g l = length l.bytes - l.done
