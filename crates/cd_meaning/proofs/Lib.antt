@@ -1,0 +1,4 @@
+pub mod Decided
+pub mod OneText
+pub mod Unions
+pub mod WorkedTexts

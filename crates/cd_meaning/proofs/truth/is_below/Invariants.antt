@@ -1,0 +1,6 @@
+use Rattle.std.proofs.Common.{ℕ, ◌<◌, IsTrue}
+use Rattle.cd_meaning.specs.Membership.{member}
+use Rattle.cd_meaning.proofs.truth.is_below.Given as goal
+
+abbrev pub invariant-loop-element : goal.invariant-loop-element
+invariant-loop-element l = (x : ℕ) → x < l.element → IsTrue (member l.i l.lower x) → IsTrue (member l.i l.upper x)

@@ -1,0 +1,10 @@
+pub mod Answer
+pub mod Entailment
+pub mod Hierarchy
+pub mod Iri
+pub mod Membership
+pub mod MembershipTable
+pub mod Numbered
+pub mod Reading
+pub mod Text
+pub mod Truth

@@ -1,0 +1,27 @@
+//! Ontology documents, and what they mean.
+//!
+//! The types are the abstract syntax of the fragment ALCH, with classes and roles by number. What they mean is in `specs/`, which
+//! can be read alone: which elements of a finite interpretation are in a class expression, which axioms hold in it, what a document
+//! entails, and which text is the answer to a document. Nothing there knows of a way to find that out.
+//!
+//! Of one finite interpretation the definitions can be run: `is_in` and `holds` decide membership and truth in it, and are proved to
+//! answer just what the definitions say.
+#![tactic(auto)]
+
+mod document;
+mod expression;
+mod interpretation;
+mod laws;
+mod membership;
+mod trees;
+mod truth;
+
+pub use document::Document;
+pub use expression::{Axiom, Expr};
+pub use interpretation::{Edge, Interpretation, Member};
+pub use laws::has_one_answer;
+pub use membership::is_in;
+pub use truth::holds;
+
+#[cfg(test)]
+mod tests;
