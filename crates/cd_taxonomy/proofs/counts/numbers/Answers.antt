@@ -1,0 +1,18 @@
+use Rattle.std.proofs.lemmas.List.Filters.{dedup_is}
+use Rattle.std.proofs.lemmas.List.Kept.{Contains-dedup_nat, Contains-from_dedup}
+use Rattle.std.proofs.lemmas.List.Sorted.{Contains-permutation, IsPermutation-sym}
+use Rattle.std.proofs.lemmas.Map.Keys.{IsStrictlyIncreasing-dedup}
+use Rattle.cd_taxonomy.proofs.counts.numbers.Goals as goal
+
+-- the same elements stand in the list before it was sorted and in what `dedup` left
+pub returns : goal.returns
+returns c =
+    let is = dedup_is _ _ _ c.dedup.ensures.filtered in
+    let moved = c.sort_unstable.ensures.permutation in
+    record {
+      ascending = rw is (IsStrictlyIncreasing-dedup _ c.sort_unstable.ensures.sorted);
+      listed = λ b. (
+        λ h. rw (← c.in_ok-found.ensures) (Contains-permutation _ _ b (IsPermutation-sym _ _ moved) (Contains-from_dedup _ _ b (rw is at h))),
+        λ h. rw is (Contains-dedup_nat _ b (Contains-permutation _ _ b moved (rw (← c.in_ok-found.ensures) at h))),
+      );
+    }
