@@ -1,0 +1,15 @@
+//! Names by number, and prefixes.
+//!
+//! [`Names`] numbers IRIs in the order in which they come: an IRI that came before keeps its number. [`Prefixes`] says what IRI each
+//! prefix stands for, and turns an abbreviated IRI into a full one. Contracts see both as lists, in the order of the additions.
+//!
+//! A call makes one look-up in a hash table, and two only where it declares a new prefix. An error leaves all as it was.
+#![tactic(auto)]
+
+mod names;
+mod prefixes;
+#[cfg(test)]
+mod tests;
+
+pub use names::Names;
+pub use prefixes::{DeclareFault, ExpandFault, Prefixes};

@@ -1,0 +1,16 @@
+pub mod Cuts
+pub mod OneWord
+pub mod Parses
+pub mod PieceLaws
+pub mod ReadDocument
+pub mod ReadIris
+pub mod ReadNames
+pub mod ReadTokens
+pub mod Said
+pub mod StatementLaws
+pub mod WalkAnswers
+pub mod WalkDocument
+pub mod WalkEntailment
+pub mod WalkReached
+pub mod WalkTold
+pub mod Whole

@@ -1,0 +1,101 @@
+//! The classify command, but for the notes.
+ghost use Rattle.std.specs.Prelude.{◌≡◌, ◌≤◌, ◌⊎◌, true, length, List, ℕ, Some, [], IfSome, IfOk, OnOk, IsErrOf};
+ghost use Rattle.std.specs.Io.KnownBytes.{Appends};
+ghost use Rattle.cd_io.specs.Causes.{Rose, HasCause};
+ghost use Rattle.cd_io.specs.Streams.{AppendsFront};
+ghost use Rattle.cd_top.specs.Headline.{IsAccepted, IsAnswered, IsClassified, IsPartlyAnswered};
+ghost use Rattle.cd_top.specs.Status.{IsEarly};
+
+use crate::answer::answer;
+use crate::input::{InputFault, read_input};
+use crate::status::Status;
+use cd_base::{Limits, Memory};
+use cd_io::{Sink, Source, WriteFault, write_all};
+use std::alloc::Global;
+use thiserror::Error;
+
+/// Why there is no text to write.
+#[derive(Clone, Copy, Debug, PartialEq, Eq, Error)]
+enum Stop {
+    #[error("the input is no document of a form that is built so far")]
+    Narrow,
+    #[error("reading failed")]
+    ReadFault,
+    #[error("out of memory")]
+    Memory,
+}
+
+/// Reads the input and writes its answer. Nothing is written before the whole answer is there. Costs what `classify_here` does.
+pub(crate) fn classify<S: Source, K: Sink>(
+    alloc: Global,
+    source: &mut S,
+    out: &mut K,
+    limits: &Limits,
+) -> Status
+    // The input was an accepted document, read to its end, and exactly one text was written: its answer.
+    ensures done { IfSome (S.left source.old) (λ input. result ≡ Status.Done →
+        IsClassified input limits.now.max_bytes (S.left source.new) (K.written out.old) (K.written out.new)) }
+    ensures ended { result ≡ Status.Done → (S.ended source.new ≡ true) × (K.finished out.new ≡ true) }
+
+    // Each other status has its cause.
+    ensures usage { result ≡ Status.Usage → ⊥ }
+    ensures read_fault { result ≡ Status.ReadFault → Rose (S.faults source.old) (S.faults source.new) }
+    ensures write_fault { result ≡ Status.WriteFault → Rose (K.faults out.old) (K.faults out.new) }
+    ensures narrow { IfSome (S.left source.old) (λ input. result ≡ Status.Narrow → IsAccepted input limits.now.max_bytes → ⊥) }
+    ensures refused { IfSome (S.left source.old) (λ input. (IsAccepted input limits.now.max_bytes → ⊥) → IsEarly result) }
+
+    // What stands after it.
+    ensures unwritten { IsEarly result → out.new ≡ out.old }
+    ensures partly { IfSome (S.left source.old) (λ input. result ≡ Status.WriteFault →
+        IsPartlyAnswered input limits.now.max_bytes (K.written out.old) (K.written out.new)) }
+{
+    match answer_of(alloc, source, limits) {
+        Ok(text) => match publish(out, &text) {
+            Ok(()) => Status::Done,
+            Err(_) => Status::WriteFault,
+        },
+        Err(Stop::Narrow) => Status::Narrow,
+        Err(Stop::ReadFault) => Status::ReadFault,
+        Err(Stop::Memory) => Status::Memory,
+    }
+}
+
+/// The answer to all that a source has left, of which it reads one byte past the limit at most.
+///
+/// Linear in these bytes, and then what the answer costs, as at `classify_here`.
+fn answer_of<S: Source>(alloc: Global, source: &mut S, limits: &Limits) -> Result<Vec<u8>, Stop>
+    ensures answered { IfSome (S.left source.old) (λ input. IfOk result (λ text.
+        (length input ≤ limits.now.max_bytes) × (S.left source.new ≡ Some []) × IsAnswered input text.items)) }
+    ensures ended { OnOk result (S.ended source.new ≡ true) }
+    ensures read_fault { IsErrOf result Stop.ReadFault → Rose (S.faults source.old) (S.faults source.new) }
+    ensures narrow { IfSome (S.left source.old) (λ input. IsErrOf result Stop.Narrow → IsAccepted input limits.now.max_bytes → ⊥) }
+{
+    let most = limits.max_bytes as usize;
+    let input = match read_input(alloc, source, most + 1) {
+        Ok(input) => input,
+        Err(InputFault::ReadFault) => return Err(Stop::ReadFault),
+        Err(InputFault::Memory) => return Err(Stop::Memory),
+    };
+    if input.len() > most {
+        return Err(Stop::Narrow);
+    }
+    match answer(alloc, &input) {
+        Ok(Some(text)) => Ok(text),
+        Ok(None) => Err(Stop::Narrow),
+        Err(Memory) => Err(Stop::Memory),
+    }
+}
+
+/// Writes the whole text and hands it on. At most a write for each byte.
+fn publish<K: Sink>(out: &mut K, text: &[u8]) -> Result<(), WriteFault>
+    ensures all { OnOk result (Appends (K.written out.old) (K.written out.new) text.now) }
+    ensures finished { OnOk result (K.finished out.new ≡ true) }
+    ensures front { AppendsFront (K.written out.old) (K.written out.new) text.now }
+    ensures cause { HasCause (K.faults out.old) (K.faults out.new) result }
+{
+    write_all(out, text)?;
+    match out.finish() {
+        Ok(()) => Ok(()),
+        Err(_) => Err(WriteFault),
+    }
+}

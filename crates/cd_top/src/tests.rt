@@ -1,0 +1,236 @@
+//! Worked inputs through the whole command, over memory. Expected texts are written by hand.
+use crate::reader::read_document;
+use crate::walk::answers;
+use crate::{Status, classify_here, run};
+use cd_base::Limits;
+use cd_io::{MemSink, MemSource, Source};
+use cd_taxonomy::{taxonomy, text};
+use std::alloc::Global;
+use std::test::Fail;
+
+const ONE_SUBSUMPTION: &str = "Ontology(SubClassOf(<x:A> <x:B>))";
+
+const ITS_TEXT: &str =
+    "Ontology(\nSubClassOf(<x:A> <x:B>)\nSubClassOf(<x:B> <http://www.w3.org/2002/07/owl#Thing>)\n)\n";
+
+/// What a run gave, and what it left on its sinks.
+#[derive(Drop)]
+struct Ended {
+    status: Status,
+    out: MemSink,
+    notes: MemSink,
+    /// The bytes of the input that were not read.
+    unread: usize,
+}
+
+/// How many bytes a source still gives.
+fn count_left(source: &mut MemSource) -> usize {
+    let mut total = 0usize;
+    let mut buf = [0u8; 64];
+    for _ in 0..1_000 {
+        match source.read(&mut buf) {
+            Ok(count) => total = total.saturating_add(count),
+            Err(_) => break,
+        }
+    }
+    total
+}
+
+/// Runs the command words, given as one text, on an input that comes at once, with ample room.
+fn run_over_memory(alloc: Global, words: &str, input: &str) -> Result<Ended, Fail> {
+    let mut source = MemSource::new(input.as_bytes().to_vec(alloc)?, 1_000, Vec::new(alloc));
+    let mut out = MemSink::new(alloc, 1_000, 1_000, Vec::new(alloc))?;
+    let mut notes = MemSink::new(alloc, 1_000, 1_000, Vec::new(alloc))?;
+    let mut list = Vec::new(alloc);
+    for word in words.split_whitespace() {
+        list.push(String::from_str(alloc, word)?)?;
+    }
+    let status = run(alloc, &list, &mut source, &mut out, &mut notes);
+    let unread = count_left(&mut source);
+    Ok(Ended {
+        status,
+        out,
+        notes,
+        unread,
+    })
+}
+
+#[test]
+fn a_document_gives_the_taxonomy_that_it_entails(rt: HostRuntime) -> Result<(), Fail> {
+    let rows = [
+        ("Ontology()", "Ontology(\n)\n"),
+        (ONE_SUBSUMPTION, ITS_TEXT),
+        (
+            "Ontology(SubClassOf(<x:A> <x:B>) SubClassOf(<x:B> <x:C>) SubClassOf(<x:A> <x:C>))",
+            "Ontology(\nSubClassOf(<x:A> <x:B>)\nSubClassOf(<x:B> <x:C>)\nSubClassOf(<x:C> <http://www.w3.org/2002/07/owl#Thing>)\n)\n",
+        ),
+        (
+            "Ontology(SubClassOf(<x:A> <x:B>) SubClassOf(<x:B> <x:A>))",
+            "Ontology(\nEquivalentClasses(<x:A> <x:B>)\nSubClassOf(<x:A> <http://www.w3.org/2002/07/owl#Thing>)\n)\n",
+        ),
+        (
+            "Ontology(SubClassOf(<http://www.w3.org/2002/07/owl#Thing> <http://www.w3.org/2002/07/owl#Nothing>) Declaration(Class(<x:A>)))",
+            "Ontology(\nEquivalentClasses(<http://www.w3.org/2002/07/owl#Nothing> <http://www.w3.org/2002/07/owl#Thing> <x:A>)\n)\n",
+        ),
+        (
+            "Ontology(SubClassOf(<http://www.w3.org/2002/07/owl#Thing> <x:B>) SubClassOf(<x:A> <http://www.w3.org/2002/07/owl#Nothing>))",
+            "Ontology(\nEquivalentClasses(<http://www.w3.org/2002/07/owl#Nothing> <x:A>)\nEquivalentClasses(<http://www.w3.org/2002/07/owl#Thing> <x:B>)\n)\n",
+        ),
+    ];
+    for (input, expected) in rows {
+        let ran = run_over_memory(rt.alloc(), "classify", input)?;
+        assert_eq!(rt; ran.status, Status::Done, "{input}");
+        assert_eq!(rt; ran.out.bytes(), expected.as_bytes(), "{input}");
+        assert!(rt; ran.notes.bytes().is_empty(), "{input}");
+    }
+    Ok(())
+}
+
+#[test]
+fn a_form_that_is_not_built_is_refused_with_its_line(rt: HostRuntime) -> Result<(), Fail> {
+    for input in [
+        "Ontology(SubClassOf(p:A <x:B>))",
+        "Ontology(SubClassOf(<x:A> <x:B>)",
+        "Ontology() Ontology()",
+        "Ontology(SubClassOf(<x:A>))",
+        "Ontology(SubClassOf(<x A> <x:B>))",
+        "",
+    ] {
+        let ran = run_over_memory(rt.alloc(), "classify", input)?;
+        assert_eq!(rt; ran.status.code(), 10, "{input}");
+        assert!(rt; ran.out.bytes().is_empty(), "{input}");
+        assert_eq!(rt;
+            ran.notes.bytes(),
+            "condor: form not built\n".as_bytes(),
+            "{input}"
+        );
+    }
+    Ok(())
+}
+
+#[test]
+fn other_words_read_nothing_and_name_the_usage(rt: HostRuntime) -> Result<(), Fail> {
+    for words in ["", "classify classify", "Classify", "--help"] {
+        let ran = run_over_memory(rt.alloc(), words, ONE_SUBSUMPTION)?;
+        assert_eq!(rt; ran.status.code(), 2, "{words}");
+        assert!(rt; ran.out.bytes().is_empty(), "{words}");
+        assert_eq!(rt;
+            ran.notes.bytes(),
+            "condor: usage: condor classify\n".as_bytes(),
+            "{words}"
+        );
+        assert_eq!(rt; ran.unread, ONE_SUBSUMPTION.len(), "{words}");
+    }
+    Ok(())
+}
+
+#[test]
+fn a_failing_read_or_write_is_told_and_leaves_a_front(rt: HostRuntime) -> Result<(), Fail> {
+    let alloc = rt.alloc();
+    let input = ONE_SUBSUMPTION.as_bytes();
+    // The third read fails, so no answer is written.
+    let mut source = MemSource::new(input.to_vec(alloc)?, 10, vec![in alloc; 2]?);
+    let mut out = MemSink::new(alloc, 1_000, 1_000, Vec::new(alloc))?;
+    let mut notes = MemSink::new(alloc, 1_000, 1_000, Vec::new(alloc))?;
+    let status = classify_here(
+        alloc,
+        &mut source,
+        &mut out,
+        &mut notes,
+        &Limits::standard(),
+    );
+    assert_eq!(rt; status.code(), 4);
+    assert!(rt; out.bytes().is_empty());
+    assert_eq!(rt; notes.bytes(), "condor: reading failed\n".as_bytes());
+    // The third write fails after two of five bytes each.
+    let mut source = MemSource::new(input.to_vec(alloc)?, 10, Vec::new(alloc));
+    let mut out = MemSink::new(alloc, 1_000, 5, vec![in alloc; 2]?)?;
+    let mut notes = MemSink::new(alloc, 1_000, 1_000, Vec::new(alloc))?;
+    let status = classify_here(
+        alloc,
+        &mut source,
+        &mut out,
+        &mut notes,
+        &Limits::standard(),
+    );
+    assert_eq!(rt; status.code(), 5);
+    assert_eq!(rt; out.bytes(), "Ontology(\n".as_bytes());
+    assert_eq!(rt; notes.bytes(), "condor: writing failed\n".as_bytes());
+    // The text is written whole, and then handing it on fails.
+    let mut source = MemSource::new(input.to_vec(alloc)?, 10, Vec::new(alloc));
+    let mut out = MemSink::new(alloc, 1_000, 1_000, vec![in alloc; 1]?)?;
+    let mut notes = MemSink::new(alloc, 1_000, 1_000, Vec::new(alloc))?;
+    let status = classify_here(
+        alloc,
+        &mut source,
+        &mut out,
+        &mut notes,
+        &Limits::standard(),
+    );
+    assert_eq!(rt; status.code(), 5);
+    assert_eq!(rt; out.bytes(), ITS_TEXT.as_bytes());
+    Ok(())
+}
+
+#[test]
+fn failing_notes_leave_the_status_as_it_is(rt: HostRuntime) -> Result<(), Fail> {
+    let alloc = rt.alloc();
+    let input = ONE_SUBSUMPTION.as_bytes();
+    for (words, code, expected, unread) in [
+        ("classify", 0, ITS_TEXT, 0),
+        ("classify classify", 2, "", 33),
+    ] {
+        let mut source = MemSource::new(input.to_vec(alloc)?, 10, Vec::new(alloc));
+        let mut out = MemSink::new(alloc, 1_000, 1_000, Vec::new(alloc))?;
+        // With no room every write fails.
+        let mut notes = MemSink::new(alloc, 0, 1_000, Vec::new(alloc))?;
+        let mut list = Vec::new(alloc);
+        for word in words.split_whitespace() {
+            list.push(String::from_str(alloc, word)?)?;
+        }
+        let status = run(alloc, &list, &mut source, &mut out, &mut notes);
+        assert_eq!(rt; status.code(), code, "{words}");
+        assert_eq!(rt; out.bytes(), expected.as_bytes(), "{words}");
+        assert!(rt; notes.bytes().is_empty(), "{words}");
+        assert_eq!(rt; count_left(&mut source), unread, "{words}");
+    }
+    Ok(())
+}
+
+#[test]
+fn the_limit_on_bytes_takes_an_input_of_that_length(rt: HostRuntime) -> Result<(), Fail> {
+    let alloc = rt.alloc();
+    for (most, code) in [(32, 10), (33, 0)] {
+        let limits = Limits::with(1, 1, most, 1, 1).ok_or("the limits are in range")?;
+        let mut source = MemSource::new(
+            ONE_SUBSUMPTION.as_bytes().to_vec(alloc)?,
+            7,
+            Vec::new(alloc),
+        );
+        let mut out = MemSink::new(alloc, 1_000, 1_000, Vec::new(alloc))?;
+        let mut notes = MemSink::new(alloc, 1_000, 1_000, Vec::new(alloc))?;
+        let status = classify_here(alloc, &mut source, &mut out, &mut notes, &limits);
+        assert_eq!(rt; status.code(), code, "{most}");
+    }
+    Ok(())
+}
+
+#[test]
+fn the_groups_stand_in_the_order_of_their_names(rt: HostRuntime) -> Result<(), Fail> {
+    let alloc = rt.alloc();
+    let document = read_document(alloc, ONE_SUBSUMPTION.as_bytes())?.ok_or("it is a document")?;
+    let above = answers(alloc, &document)?;
+    let found = taxonomy(alloc, &document, &above)?;
+    // owl:Nothing, owl:Thing, A and B are the classes 1, 0, 2 and 3.
+    let members: [u32; 4] = [1, 0, 2, 3];
+    let parents: [&[u32]; 4] = [&[2], &[], &[3], &[1]];
+    let groups = found.groups.items();
+    assert_eq!(rt; groups.len(), 4);
+    for (number, group) in groups.iter().enumerate() {
+        assert_eq!(rt; group.members.items(), &members[number..number + 1]);
+        assert_eq!(rt; group.parents.items(), parents[number]);
+    }
+    let bytes = text(alloc, &document, &found)?;
+    assert_eq!(rt; bytes.as_slice(), ITS_TEXT.as_bytes());
+    Ok(())
+}
