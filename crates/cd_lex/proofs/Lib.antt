@@ -1,0 +1,11 @@
+pub mod CutFirst
+pub mod CutLaws
+pub mod CutQuoted
+pub mod CutRuns
+pub mod MachineAhead
+pub mod MachineBad
+pub mod MachineCalls
+pub mod MachineLaws
+pub mod MachineRuns
+pub mod MachineShows
+pub mod MachineSteps

@@ -1,0 +1,154 @@
+-- The tokens of a text: Structural Specification, sections 2.2 and 2.4, in the profile of this project, which takes bytes above 127 unchecked.
+use Rattle.std.specs.Prelude.{◌≡◌, ◌≢◌, ◌⊎◌, ℕ, ◌+◌, Bool, false, not, ◌&&◌, ◌||◌, ◌==◌, if◌then◌else◌, nat_le, nat_lt, IsTrue, List, [], ◌∷◌, ◌++◌, length}
+use Rattle.std.specs.List.{list_all}
+use Rattle.cd_base.specs.Iri.{IsIri}
+use Rattle.cd_lex.specs.declared.token.Kind.{Kind}
+use Rattle.cd_lex.specs.declared.token.Kind.TheVariants.{Opening, Closing, Equals, Carets, Word, Short, Node, FullIri, Quoted, Lang}
+use Rattle.cd_lex.specs.declared.token.Token.{Token}
+
+-- ---- bytes
+
+abbrev pub is_blank : ℕ → Bool
+is_blank b = b == 32 || b == 9 || b == 10 || b == 13
+
+abbrev pub is_between : ℕ → ℕ → ℕ → Bool
+is_between low high b = nat_le low b && nat_le b high
+
+-- an ASCII letter
+abbrev pub is_letter : ℕ → Bool
+is_letter b = is_between 65 90 b || is_between 97 122 b
+
+-- an ASCII letter or digit, one of `_`, `-`, `.`, `%`, `:`, or a byte above 127
+abbrev pub is_name_byte : ℕ → Bool
+is_name_byte b = is_letter b || is_between 48 57 b || b == 95 || b == 45 || b == 46 || b == 37 || b == 58 || nat_lt 127 b
+
+abbrev pub is_word_byte : ℕ → Bool
+is_word_byte b = is_name_byte b && not (b == 58)
+
+-- an ASCII letter or digit, or `-`
+abbrev pub is_lang_byte : ℕ → Bool
+is_lang_byte b = is_letter b || is_between 48 57 b || b == 45
+
+-- a line feed or a carriage return
+abbrev pub ends_line : ℕ → Bool
+ends_line b = b == 10 || b == 13
+
+-- ---- what stands between two places of a text
+
+pub data Piece : Type 0 where
+  Blank : ℕ → Piece
+  Comment : List ℕ → Piece
+  Lexeme : Kind → Piece
+
+-- each `"` and `\` with a `\` before it
+abbrev pub escaped : List ℕ → List ℕ
+escaped [] = []
+escaped (b ∷ more) = if b == 34 || b == 92 then 92 ∷ b ∷ escaped more else b ∷ escaped more
+
+abbrev pub spelled_kind : Kind → List ℕ
+spelled_kind Opening = 40 ∷ []
+spelled_kind Closing = 41 ∷ []
+spelled_kind Equals = 61 ∷ []
+spelled_kind Carets = 94 ∷ 94 ∷ []
+spelled_kind (Word w) = w
+spelled_kind (Short p l) = p ++ l
+spelled_kind (Node l) = 95 ∷ 58 ∷ l
+spelled_kind (FullIri i) = 60 ∷ i ++ 62 ∷ []
+spelled_kind (Quoted s) = 34 ∷ escaped s ++ 34 ∷ []
+spelled_kind (Lang t) = 64 ∷ t
+
+abbrev pub spelled : Piece → List ℕ
+spelled (Blank b) = b ∷ []
+spelled (Comment c) = 35 ∷ c
+spelled (Lexeme kind) = spelled_kind kind
+
+-- the text is not empty, and its first byte passes
+abbrev pub begins : (ℕ → Bool) → List ℕ → Bool
+begins test [] = false
+begins test (b ∷ more) = test b
+
+-- a prefix: word bytes other than a single `_`, and a colon
+abbrev pub IsPrefixName : List ℕ → Type 0
+IsPrefixName p = (w : List ℕ) × (p ≡ w ++ 58 ∷ []) × (w ≢ 95 ∷ []) × IsTrue (list_all is_word_byte w)
+
+abbrev pub IsKind : Kind → Type 0
+IsKind (Word w) = (w ≢ []) × IsTrue (list_all is_word_byte w)
+IsKind (Short p l) = IsPrefixName p × IsTrue (list_all is_name_byte l)
+IsKind (Node l) = IsTrue (list_all is_name_byte l)
+IsKind (FullIri i) = IsIri i
+IsKind (Lang t) = IsTrue (begins is_letter t) × IsTrue (list_all is_lang_byte t)
+IsKind other = Unit {0}
+
+abbrev pub IsPiece : Piece → Type 0
+IsPiece (Blank b) = IsTrue (is_blank b)
+IsPiece (Comment c) = IsTrue (list_all (λ b. not (ends_line b)) c)
+IsPiece (Lexeme kind) = IsKind kind
+
+-- with this behind it, no longer piece begins where this one does
+abbrev pub IsLongestKind : Kind → List ℕ → Type 0
+IsLongestKind (Word w) rest = begins is_name_byte rest ≡ false
+IsLongestKind (Short p l) rest = begins is_name_byte rest ≡ false
+IsLongestKind (Node l) rest = begins is_name_byte rest ≡ false
+IsLongestKind (Lang t) rest = begins is_lang_byte rest ≡ false
+IsLongestKind other rest = Unit {0}
+
+abbrev pub IsLongest : Piece → List ℕ → Type 0
+IsLongest (Blank b) rest = Unit {0}
+IsLongest (Comment c) rest = (rest ≡ []) ⊎ IsTrue (begins ends_line rest)
+IsLongest (Lexeme kind) rest = IsLongestKind kind rest
+
+-- the text begins with this piece, and the rest stands behind it
+pub record BeginsWith (bytes : List ℕ) (piece : Piece) (rest : List ℕ) : Type 0 where
+  pub split : bytes ≡ spelled piece ++ rest
+  pub is_piece : IsPiece piece
+  pub is_longest : IsLongest piece rest
+
+-- the text is these pieces in turn, and then the rest
+abbrev pub IsCut : List ℕ → List Piece → List ℕ → Type 0
+IsCut bytes [] rest = bytes ≡ rest
+IsCut bytes (piece ∷ more) rest = (behind : List ℕ) × BeginsWith bytes piece behind × IsCut behind more rest
+
+-- a byte at which no piece begins
+abbrev pub IsBad : List ℕ → Type 0
+IsBad bytes = (bytes ≢ []) × ((piece : Piece) (rest : List ℕ) → BeginsWith bytes piece rest → ⊥)
+
+-- ---- the items of a text
+
+-- the tokens among pieces, each with its place
+abbrev pub placed : ℕ → List Piece → List Token
+placed at [] = []
+placed at (Blank b ∷ more) = placed (at + 1) more
+placed at (Comment c ∷ more) = placed (at + length (spelled (Comment c))) more
+placed at (Lexeme kind ∷ more) = record { kind = kind; place = at } ∷ placed (at + length (spelled_kind kind)) more
+
+abbrev pub length_of : List Piece → ℕ
+length_of [] = 0
+length_of (piece ∷ more) = length (spelled piece) + length_of more
+
+-- how the items of a text end: with its end, or with a bad byte
+pub data Ending : Type 0 where
+  AtEnd : ℕ → Ending
+  AtBad : ℕ → Ending
+
+-- the text has these tokens, and ends so: each token is the longest at its place, and the end or the first bad byte is the last item
+abbrev pub HasItems : List ℕ → List Token → Ending → Type 0
+HasItems bytes tokens (AtEnd n) = (pieces : List Piece) × IsCut bytes pieces [] × (tokens ≡ placed 0 pieces) × (n ≡ length bytes)
+HasItems bytes tokens (AtBad n) = (pieces : List Piece) × (rest : List ℕ) × IsCut bytes pieces rest × IsBad rest × (tokens ≡ placed 0 pieces) × (n ≡ length_of pieces)
+
+-- ---- what the first bytes of a text show, whatever follows
+
+-- these are its first tokens
+abbrev pub ShowsTokens : List ℕ → List Token → Type 0
+ShowsTokens bytes tokens = (more : List ℕ) (all : List Token) (ending : Ending) → HasItems (bytes ++ more) all ending
+    → (later : List Token) × (all ≡ tokens ++ later)
+
+-- it has a bad byte at this place
+abbrev pub ShowsBad : List ℕ → ℕ → Type 0
+ShowsBad bytes n = (more : List ℕ) (all : List Token) (ending : Ending) → HasItems (bytes ++ more) all ending → ending ≡ AtBad n
+
+-- ---- laws
+
+-- every text has items, and no two lists of them
+pub record ItemsAreUnique : Type 0 where
+  pub some : (bytes : List ℕ) → (tokens : List Token) × (ending : Ending) × HasItems bytes tokens ending
+  pub one : (bytes : List ℕ) (s t : List Token) (e f : Ending) → HasItems bytes s e → HasItems bytes t f → (s ≡ t) × (e ≡ f)

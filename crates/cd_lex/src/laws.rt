@@ -1,0 +1,7 @@
+//! Laws of the definitions, each on the contract of a function that does nothing.
+ghost use Rattle.cd_lex.specs.Tokens.{ItemsAreUnique};
+
+/// Every text has tokens up to its end or its first bad byte, and only one list of them.
+pub fn items_are_unique()
+    ensures { ItemsAreUnique }
+{}
