@@ -516,6 +516,13 @@ impl Lexer {
         self.tokens.pop_front()
     }
 
+    /// How many bytes were fed, up to a fault. Constant time.
+    pub fn place(&self) -> u64
+        ensures { result ≡ self.now.place }
+    {
+        self.place
+    }
+
     pub(crate) fn answer(&self) -> Result<(), LexFault>
         ensures { result ≡ answer_of self.now.fault }
     {

@@ -4,6 +4,7 @@ pub mod Hierarchy
 pub mod Iri
 pub mod Membership
 pub mod MembershipTable
+pub mod Nodes
 pub mod Numbered
 pub mod Reading
 pub mod Text

@@ -1,5 +1,5 @@
 //! Prefixes, and the full IRIs of abbreviated ones. Structural Specification, sections 2.4 and 3.7.
-ghost use Rattle.std.specs.Prelude.{◌≡◌, ◌≢◌, ◌↔◌, [], ◌∷◌, ◌++◌, Some, None, IfOk, IsSomeAnd, OnOk, OnErr, IsErrOf, option_copied};
+ghost use Rattle.std.specs.Prelude.{◌≡◌, ◌≢◌, ◌↔◌, [], ◌∷◌, ◌++◌, Some, None, is_some, IfOk, IsSomeAnd, OnOk, OnErr, IsErrOf, option_copied};
 ghost use Rattle.std.specs.Option.{option_map};
 ghost use Rattle.cd_names.specs.Prefixes.{meaning, standard, declare};
 
@@ -90,6 +90,13 @@ impl Prefixes {
             return Err(ExpandFault::Unknown);
         };
         joined(alloc, iri, local).map_err(|_| ExpandFault::Memory)
+    }
+
+    /// Whether a prefix, with its colon, stands for an IRI. One look-up, so linear in its bytes.
+    pub fn contains(&self, prefix: &[u8]) -> bool
+        ensures { result ≡ is_some (meaning self.now prefix.now) }
+    {
+        self.iri_of(prefix).is_some()
     }
 
     /// What a prefix stands for, by one look-up.

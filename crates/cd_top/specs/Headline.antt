@@ -2,9 +2,10 @@
 use Rattle.std.specs.Prelude.{◌≡◌, ℕ, ◌≤◌, List, [], ◌∷◌, length, codes, Option, Some}
 use Rattle.std.specs.Io.KnownBytes.{Appends}
 use Rattle.cd_io.specs.Streams.{AppendsFront}
+use Rattle.cd_grammar.specs.Grammar.{IsRead}
 use Rattle.cd_meaning.specs.declared.document.Document.{Document}
 use Rattle.cd_meaning.specs.Answer.{IsAnswer, SaysEntailed}
-use Rattle.cd_top.specs.Grammar.{IsRead}
+use Rattle.cd_top.specs.Walk.{IsNarrow}
 
 -- the words are the one command
 abbrev pub AsksClassify : List (List ℕ) → Type 0
@@ -17,6 +18,14 @@ standard_bytes = 268435456
 -- the input is a document of at most so many bytes
 abbrev pub IsAccepted : List ℕ → ℕ → Type 0
 IsAccepted input most = (length input ≤ most) × (document : Document) × IsRead input document
+
+-- the input is such a document, and its axioms are subsumptions between named classes
+abbrev pub IsAnswerable : List ℕ → ℕ → Type 0
+IsAnswerable input most = (length input ≤ most) × (document : Document) × IsRead input document × IsNarrow document
+
+-- the input is such a document, and it has another axiom
+abbrev pub IsUnbuilt : List ℕ → ℕ → Type 0
+IsUnbuilt input most = (length input ≤ most) × (document : Document) × IsRead input document × (IsNarrow document → ⊥)
 
 -- the text is the answer to the document that the input is, and says, read back, exactly what the document entails
 abbrev pub IsAnswered : List ℕ → List ℕ → Type 0

@@ -1,15 +1,18 @@
 //! The classify command, but for the notes.
-ghost use Rattle.std.specs.Prelude.{◌≡◌, ◌≤◌, ◌⊎◌, true, length, List, ℕ, Some, [], IfSome, IfOk, OnOk, IsErrOf};
+ghost use Rattle.std.specs.Prelude.{◌≡◌, ◌≤◌, ◌⊎◌, true, length, List, ℕ, Some, Err, [], IfSome, IfOk, OnOk, IsErrOf};
 ghost use Rattle.std.specs.Io.KnownBytes.{Appends};
 ghost use Rattle.cd_io.specs.Causes.{Rose, HasCause};
 ghost use Rattle.cd_io.specs.Streams.{AppendsFront};
-ghost use Rattle.cd_top.specs.Headline.{IsAccepted, IsAnswered, IsClassified, IsPartlyAnswered};
+ghost use Rattle.cd_top.specs.Headline.{IsAccepted, IsAnswerable, IsAnswered, IsClassified, IsPartlyAnswered, IsUnbuilt};
+ghost use Rattle.cd_grammar.specs.Reading.{IsRefused};
+ghost use Rattle.cd_grammar.specs.declared.refusal.Refusal.{Refusal};
 ghost use Rattle.cd_top.specs.Status.{IsEarly};
 
-use crate::answer::answer;
-use crate::input::{InputFault, read_input};
+use crate::answer::answer_to;
 use crate::status::Status;
+use crate::walk::is_narrow;
 use cd_base::{Limits, Memory};
+use cd_grammar::{ReadRefusal, Refusal, read_document};
 use cd_io::{Sink, Source, WriteFault, write_all};
 use std::alloc::Global;
 use thiserror::Error;
@@ -17,7 +20,9 @@ use thiserror::Error;
 /// Why there is no text to write.
 #[derive(Clone, Copy, Debug, PartialEq, Eq, Error)]
 enum Stop {
-    #[error("the input is no document of a form that is built so far")]
+    #[error("{0}")]
+    Refused(Refusal),
+    #[error("the document is of no form that is built so far")]
     Narrow,
     #[error("reading failed")]
     ReadFault,
@@ -41,8 +46,11 @@ pub(crate) fn classify<S: Source, K: Sink>(
     ensures usage { result ≡ Status.Usage → ⊥ }
     ensures read_fault { result ≡ Status.ReadFault → Rose (S.faults source.old) (S.faults source.new) }
     ensures write_fault { result ≡ Status.WriteFault → Rose (K.faults out.old) (K.faults out.new) }
-    ensures narrow { IfSome (S.left source.old) (λ input. result ≡ Status.Narrow → IsAccepted input limits.now.max_bytes → ⊥) }
-    ensures refused { IfSome (S.left source.old) (λ input. (IsAccepted input limits.now.max_bytes → ⊥) → IsEarly result) }
+    ensures refused { IfSome (S.left source.old) (λ input. (refusal : Refusal) → result ≡ Status.Refused refusal
+        → IsRefused input limits.now.max_bytes refusal) }
+    ensures narrow { IfSome (S.left source.old) (λ input. result ≡ Status.Narrow → IsUnbuilt input limits.now.max_bytes) }
+    ensures unaccepted { IfSome (S.left source.old) (λ input. (IsAccepted input limits.now.max_bytes → ⊥) → IsEarly result) }
+    ensures unanswerable { IfSome (S.left source.old) (λ input. IsAnswerable input limits.now.max_bytes → result ≡ Status.Narrow → ⊥) }
 
     // What stands after it.
     ensures unwritten { IsEarly result → out.new ≡ out.old }
@@ -54,34 +62,35 @@ pub(crate) fn classify<S: Source, K: Sink>(
             Ok(()) => Status::Done,
             Err(_) => Status::WriteFault,
         },
+        Err(Stop::Refused(refusal)) => Status::Refused(refusal),
         Err(Stop::Narrow) => Status::Narrow,
         Err(Stop::ReadFault) => Status::ReadFault,
         Err(Stop::Memory) => Status::Memory,
     }
 }
 
-/// The answer to all that a source has left, of which it reads one byte past the limit at most.
-///
-/// Linear in these bytes, and then what the answer costs, as at `classify_here`.
+/// The answer to all that a source has left. Linear in these bytes, and then what the answer costs, as at `classify_here`.
 fn answer_of<S: Source>(alloc: Global, source: &mut S, limits: &Limits) -> Result<Vec<u8>, Stop>
     ensures answered { IfSome (S.left source.old) (λ input. IfOk result (λ text.
         (length input ≤ limits.now.max_bytes) × (S.left source.new ≡ Some []) × IsAnswered input text.items)) }
     ensures ended { OnOk result (S.ended source.new ≡ true) }
     ensures read_fault { IsErrOf result Stop.ReadFault → Rose (S.faults source.old) (S.faults source.new) }
-    ensures narrow { IfSome (S.left source.old) (λ input. IsErrOf result Stop.Narrow → IsAccepted input limits.now.max_bytes → ⊥) }
+    ensures refused { IfSome (S.left source.old) (λ input. (refusal : Refusal) → result ≡ Err (Stop.Refused refusal)
+        → IsRefused input limits.now.max_bytes refusal) }
+    ensures narrow { IfSome (S.left source.old) (λ input. IsErrOf result Stop.Narrow → IsUnbuilt input limits.now.max_bytes) }
+    ensures unanswerable { IfSome (S.left source.old) (λ input. IsAnswerable input limits.now.max_bytes → IsErrOf result Stop.Narrow → ⊥) }
 {
-    let most = limits.max_bytes as usize;
-    let input = match read_input(alloc, source, most + 1) {
-        Ok(input) => input,
-        Err(InputFault::ReadFault) => return Err(Stop::ReadFault),
-        Err(InputFault::Memory) => return Err(Stop::Memory),
+    let document = match read_document(alloc, source, limits) {
+        Ok(document) => document,
+        Err(ReadRefusal::Refused(refusal)) => return Err(Stop::Refused(refusal)),
+        Err(ReadRefusal::ReadFault) => return Err(Stop::ReadFault),
+        Err(ReadRefusal::Memory) => return Err(Stop::Memory),
     };
-    if input.len() > most {
+    if !is_narrow(&document) {
         return Err(Stop::Narrow);
     }
-    match answer(alloc, &input) {
-        Ok(Some(text)) => Ok(text),
-        Ok(None) => Err(Stop::Narrow),
+    match answer_to(alloc, &document) {
+        Ok(text) => Ok(text),
         Err(Memory) => Err(Stop::Memory),
     }
 }

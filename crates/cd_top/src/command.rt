@@ -1,13 +1,16 @@
 //! The command words, and the line on the notes.
 ghost use Rattle.std.specs.Prelude.{◌≡◌, ◌≤◌, ◌⊎◌, ◌↔◌, true, IsTrue, IfSome, List, ℕ, map, string_bytes, codes};
 ghost use Rattle.cd_io.specs.Causes.{Rose};
-ghost use Rattle.cd_top.specs.Headline.{AsksClassify, standard_bytes, IsAccepted, IsClassified, IsPartlyAnswered};
+ghost use Rattle.cd_top.specs.Headline.{AsksClassify, standard_bytes, IsAccepted, IsAnswerable, IsClassified, IsPartlyAnswered, IsUnbuilt};
+ghost use Rattle.cd_grammar.specs.Reading.{IsRefused};
+ghost use Rattle.cd_grammar.specs.declared.refusal.Refusal.{Refusal};
 ghost use Rattle.cd_top.specs.Status.{line_of, IsEarly, IsNoted};
 
 use crate::classify::classify;
+use crate::notes::note;
 use crate::status::Status;
 use cd_base::Limits;
-use cd_io::{Sink, Source, write_all};
+use cd_io::{Sink, Source};
 use std::alloc::Global;
 
 /// All that the program does: reads the words, then the input, and writes the answer to `out` and a line on any other end to `notes`.
@@ -29,11 +32,13 @@ pub fn run<S: Source, K: Sink, E: Sink>(
     ensures usage { (result ≡ Status.Usage) ↔ (AsksClassify (map string_bytes words.now) → ⊥) }
     ensures read_fault { result ≡ Status.ReadFault → Rose (S.faults source.old) (S.faults source.new) }
     ensures write_fault { result ≡ Status.WriteFault → Rose (K.faults out.old) (K.faults out.new) }
-    ensures narrow { IfSome (S.left source.old) (λ input. result ≡ Status.Narrow → IsAccepted input standard_bytes → ⊥) }
-    ensures refused { IfSome (S.left source.old) (λ input. (IsAccepted input standard_bytes → ⊥) → IsEarly result) }
+    ensures refused { IfSome (S.left source.old) (λ input. (refusal : Refusal) → result ≡ Status.Refused refusal
+        → IsRefused input standard_bytes refusal) }
+    ensures narrow { IfSome (S.left source.old) (λ input. result ≡ Status.Narrow → IsUnbuilt input standard_bytes) }
+    ensures unaccepted { IfSome (S.left source.old) (λ input. (IsAccepted input standard_bytes → ⊥) → IsEarly result) }
 
-    // An accepted input is answered unless a fault rose or memory ran out.
-    ensures complete { IfSome (S.left source.old) (λ input. AsksClassify (map string_bytes words.now) → IsAccepted input standard_bytes →
+    // An accepted input of named subsumptions is answered unless a fault rose or memory ran out.
+    ensures complete { IfSome (S.left source.old) (λ input. AsksClassify (map string_bytes words.now) → IsAnswerable input standard_bytes →
         (Rose (S.faults source.old) (S.faults source.new) → ⊥) → (Rose (K.faults out.old) (K.faults out.new) → ⊥)
         → (result ≡ Status.Done) ⊎ (result ≡ Status.Memory)) }
 
@@ -72,11 +77,13 @@ pub fn classify_here<S: Source, K: Sink, E: Sink>(
     ensures usage { result ≡ Status.Usage → ⊥ }
     ensures read_fault { result ≡ Status.ReadFault → Rose (S.faults source.old) (S.faults source.new) }
     ensures write_fault { result ≡ Status.WriteFault → Rose (K.faults out.old) (K.faults out.new) }
-    ensures narrow { IfSome (S.left source.old) (λ input. result ≡ Status.Narrow → IsAccepted input limits.now.max_bytes → ⊥) }
-    ensures refused { IfSome (S.left source.old) (λ input. (IsAccepted input limits.now.max_bytes → ⊥) → IsEarly result) }
+    ensures refused { IfSome (S.left source.old) (λ input. (refusal : Refusal) → result ≡ Status.Refused refusal
+        → IsRefused input limits.now.max_bytes refusal) }
+    ensures narrow { IfSome (S.left source.old) (λ input. result ≡ Status.Narrow → IsUnbuilt input limits.now.max_bytes) }
+    ensures unaccepted { IfSome (S.left source.old) (λ input. (IsAccepted input limits.now.max_bytes → ⊥) → IsEarly result) }
 
-    // An accepted input is answered unless a fault rose or memory ran out.
-    ensures complete { IfSome (S.left source.old) (λ input. IsAccepted input limits.now.max_bytes →
+    // An accepted input of named subsumptions is answered unless a fault rose or memory ran out.
+    ensures complete { IfSome (S.left source.old) (λ input. IsAnswerable input limits.now.max_bytes →
         (Rose (S.faults source.old) (S.faults source.new) → ⊥) → (Rose (K.faults out.old) (K.faults out.new) → ⊥)
         → (result ≡ Status.Done) ⊎ (result ≡ Status.Memory)) }
 
@@ -90,15 +97,6 @@ pub fn classify_here<S: Source, K: Sink, E: Sink>(
     let status = classify(alloc, source, out, limits);
     note(notes, status);
     status
-}
-
-/// Puts the status's line on the notes, as far as they take it. At most a write for each of its bytes.
-fn note<E: Sink>(notes: &mut E, status: Status)
-    ensures noted { IsNoted (E.written notes.old) (E.written notes.new) (E.faults notes.old) (E.faults notes.new) (line_of status) }
-    ensures quiet { status ≡ Status.Done → notes.new ≡ notes.old }
-{
-    // A fault on the notes leaves the status as it is.
-    let _ = write_all(notes, status.line());
 }
 
 /// Whether the words are the one word `classify`. In constant time.

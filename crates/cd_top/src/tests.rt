@@ -1,8 +1,8 @@
 //! Worked inputs through the whole command, over memory. Expected texts are written by hand.
-use crate::reader::read_document;
-use crate::walk::answers;
+use crate::walk::{answers, is_narrow};
 use crate::{Status, classify_here, run};
 use cd_base::Limits;
+use cd_grammar::read_document;
 use cd_io::{MemSink, MemSource, Source};
 use cd_taxonomy::{taxonomy, text};
 use std::alloc::Global;
@@ -87,23 +87,85 @@ fn a_document_gives_the_taxonomy_that_it_entails(rt: HostRuntime) -> Result<(), 
 }
 
 #[test]
-fn a_form_that_is_not_built_is_refused_with_its_line(rt: HostRuntime) -> Result<(), Fail> {
-    for input in [
-        "Ontology(SubClassOf(p:A <x:B>))",
-        "Ontology(SubClassOf(<x:A> <x:B>)",
-        "Ontology() Ontology()",
-        "Ontology(SubClassOf(<x:A>))",
-        "Ontology(SubClassOf(<x A> <x:B>))",
-        "",
+fn real_syntax_gives_the_taxonomy_of_what_it_says(rt: HostRuntime) -> Result<(), Fail> {
+    let rows = [
+        (
+            "Prefix(p:=<x:>)Ontology(<x:o> #c\nSubClassOf(Annotation(rdfs:label \"a\\\"b\"@en) p:A p:B))",
+            ITS_TEXT,
+        ),
+        (
+            "Ontology(SubClassOf(owl:Thing owl:Nothing) Declaration(Class(<x:A>)) Declaration(Class(<x:B>)) Declaration(Class(<x:C>)))",
+            "Ontology(\nEquivalentClasses(<http://www.w3.org/2002/07/owl#Nothing> <http://www.w3.org/2002/07/owl#Thing> <x:A> <x:B> <x:C>)\n)\n",
+        ),
+        (
+            "Prefix(:=<x:>)\r\nOntology(<x:o> <x:v>\tAnnotationAssertion(rdfs:label :A \"a\"^^xsd:string) SubClassOf(:A :B) AnnotationPropertyDomain(:p :C) SubAnnotationPropertyOf(:p :q))",
+            ITS_TEXT,
+        ),
+    ];
+    for (input, expected) in rows {
+        let ran = run_over_memory(rt.alloc(), "classify", input)?;
+        assert_eq!(rt; ran.status, Status::Done, "{input}");
+        assert_eq!(rt; ran.out.bytes(), expected.as_bytes(), "{input}");
+        assert!(rt; ran.notes.bytes().is_empty(), "{input}");
+    }
+    Ok(())
+}
+
+#[test]
+fn a_refused_document_names_what_is_wrong_and_where(rt: HostRuntime) -> Result<(), Fail> {
+    let nested = "ObjectComplementOf(".repeat(rt.alloc(), 257)?;
+    let deep = format!(in rt.alloc(); "Ontology(SubClassOf(<x:A> {nested}")?;
+    for (input, code, line) in [
+        (
+            "Ontology(SubClassOf(<x:A> ObjectInverseOf(<x:R>)))",
+            1,
+            "condor: construct ObjectInverseOf at byte 26\n",
+        ),
+        (
+            "Ontology(SubClassOf(p:A <x:B>))",
+            1,
+            "condor: prefix at byte 20\n",
+        ),
+        (
+            "Ontology(SubClassOf(<x:A> <x:B>)",
+            1,
+            "condor: syntax at byte 32\n",
+        ),
+        (
+            "Prefix(owl:=<x:>)Ontology()",
+            1,
+            "condor: prefix at byte 12\n",
+        ),
+        (
+            "Ontology(Annotation(rdfs:label \"a)",
+            1,
+            "condor: syntax at byte 31\n",
+        ),
+        (
+            "Ontology(SubObjectPropertyOf(<x:R> owl:topObjectProperty))",
+            1,
+            "condor: construct owl:topObjectProperty at byte 35\n",
+        ),
+        (
+            deep.as_str(),
+            1,
+            "condor: nesting deeper than 256 at byte 4890\n",
+        ),
+        (
+            "Ontology(DisjointClasses(<x:A> <x:A>))",
+            10,
+            "condor: form not built\n",
+        ),
+        (
+            "Ontology(SubClassOf(<x:A> ObjectUnionOf(<x:B>)))",
+            10,
+            "condor: form not built\n",
+        ),
     ] {
         let ran = run_over_memory(rt.alloc(), "classify", input)?;
-        assert_eq!(rt; ran.status.code(), 10, "{input}");
+        assert_eq!(rt; ran.status.code(), code, "{input}");
         assert!(rt; ran.out.bytes().is_empty(), "{input}");
-        assert_eq!(rt;
-            ran.notes.bytes(),
-            "condor: form not built\n".as_bytes(),
-            "{input}"
-        );
+        assert_eq!(rt; ran.notes.bytes(), line.as_bytes(), "{input}");
     }
     Ok(())
 }
@@ -200,7 +262,7 @@ fn failing_notes_leave_the_status_as_it_is(rt: HostRuntime) -> Result<(), Fail> 
 #[test]
 fn the_limit_on_bytes_takes_an_input_of_that_length(rt: HostRuntime) -> Result<(), Fail> {
     let alloc = rt.alloc();
-    for (most, code) in [(32, 10), (33, 0)] {
+    for (most, code, line) in [(32, 1, "condor: input longer than 32 bytes\n"), (33, 0, "")] {
         let limits = Limits::with(1, 1, most, 1, 1).ok_or("the limits are in range")?;
         let mut source = MemSource::new(
             ONE_SUBSUMPTION.as_bytes().to_vec(alloc)?,
@@ -211,6 +273,7 @@ fn the_limit_on_bytes_takes_an_input_of_that_length(rt: HostRuntime) -> Result<(
         let mut notes = MemSink::new(alloc, 1_000, 1_000, Vec::new(alloc))?;
         let status = classify_here(alloc, &mut source, &mut out, &mut notes, &limits);
         assert_eq!(rt; status.code(), code, "{most}");
+        assert_eq!(rt; notes.bytes(), line.as_bytes(), "{most}");
     }
     Ok(())
 }
@@ -218,7 +281,15 @@ fn the_limit_on_bytes_takes_an_input_of_that_length(rt: HostRuntime) -> Result<(
 #[test]
 fn the_groups_stand_in_the_order_of_their_names(rt: HostRuntime) -> Result<(), Fail> {
     let alloc = rt.alloc();
-    let document = read_document(alloc, ONE_SUBSUMPTION.as_bytes())?.ok_or("it is a document")?;
+    let mut source = MemSource::new(
+        ONE_SUBSUMPTION.as_bytes().to_vec(alloc)?,
+        9,
+        Vec::new(alloc),
+    );
+    let document = read_document(alloc, &mut source, &Limits::standard())?;
+    if !is_narrow(&document) {
+        return Err(Fail::from("its one axiom is a subsumption between named classes"));
+    }
     let above = answers(alloc, &document)?;
     let found = taxonomy(alloc, &document, &above)?;
     // owl:Nothing, owl:Thing, A and B are the classes 1, 0, 2 and 3.

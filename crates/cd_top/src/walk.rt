@@ -1,5 +1,6 @@
 //! Which classes a walk over the axioms reaches from each class.
-ghost use Rattle.std.specs.Prelude.{◌≡◌, ◌<◌, ℕ, ◌↔◌, IsTrue, [], length, map, nat_eq, All, Contains, IfOk, OnOk, IsSorted, IsPermutation};
+ghost use Rattle.std.specs.Prelude.{◌≡◌, ◌<◌, ℕ, ◌↔◌, IsTrue, is_some, [], length, map, nat_eq, All, Contains, IfOk, OnOk, IsSorted, IsPermutation};
+ghost use Rattle.std.specs.List.{list_all};
 ghost use Rattle.std.specs.Ordering.{nat_cmp};
 ghost use Rattle.indexmap.specs.IndexSet.{insert_all};
 ghost use Rattle.cd_taxonomy.specs.Relation.{is_below, IsWithin};
@@ -10,6 +11,20 @@ use cd_base::{Answer, Atom, Memory, Seq};
 use cd_meaning::{Axiom, Document, Expr};
 use indexmap::IndexSet;
 use std::alloc::Global;
+
+/// Whether every axiom is a subsumption between two named classes. Linear in the axioms.
+pub(crate) fn is_narrow(document: &Document) -> bool
+    ensures { IsTrue result ↔ IsNarrow document.now }
+{
+    are_named(document.axioms.items())
+}
+
+/// Whether each is a subsumption between two named classes. Linear in them.
+fn are_named(axioms: &[Axiom]) -> bool
+    ensures { result ≡ list_all (λ stated. is_some (named_pair stated)) axioms.now }
+{
+    axioms.iter().all(|stated| named_pair(stated).is_some())
+}
 
 /// The answer for each class of a document whose axioms are subsumptions between named classes. Each answer is ascending.
 ///

@@ -16,12 +16,12 @@ returns-in-Ok-publish-clause-done g c =
       );
     })
 
-pub returns-in-Ok-publish-clause-refused : goal.returns-in-Ok-publish-clause-refused
-returns-in-Ok-publish-clause-refused g c =
+pub returns-in-Ok-publish-clause-unaccepted : goal.returns-in-Ok-publish-clause-unaccepted
+returns-in-Ok-publish-clause-unaccepted g c =
     IfSome_then (g.S.Source.left c.args.source.now) c.in-Ok.ensures.answered (λ input is refused. refused (is.0, is.2.0, is.2.1))
 
-pub returns-in-Ok-clause-refused : goal.returns-in-Ok-clause-refused
-returns-in-Ok-clause-refused g c =
+pub returns-in-Ok-clause-unaccepted : goal.returns-in-Ok-clause-unaccepted
+returns-in-Ok-clause-unaccepted g c =
     IfSome_then (g.S.Source.left c.args.source.now) c.in-Ok.ensures.answered (λ input is refused. refused (is.0, is.2.0, is.2.1))
 
 pub returns-in-Ok-clause-partly : goal.returns-in-Ok-clause-partly

@@ -1,0 +1,10 @@
+pub mod Causes
+pub mod Fault
+pub mod Grammar
+pub mod Items
+pub mod Laws
+pub mod Machine
+pub mod Operands
+pub mod Reading
+pub mod Taking
+pub mod Words

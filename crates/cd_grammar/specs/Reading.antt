@@ -1,0 +1,80 @@
+-- What the calls of a reader tell of the bytes that it was fed.
+use Rattle.std.specs.Prelude.{◌≡◌, ◌≢◌, ℕ, ◌+◌, ◌<◌, ◌≤◌, false, IsTrue, List, [], ◌∷◌, map, length, take, Option, Some, None, Result, Ok, Err, All, AllPairs}
+use Rattle.std.specs.List.{list_all, fold}
+use Rattle.cd_base.specs.Iri.{IsIri}
+use Rattle.cd_meaning.specs.declared.document.Document.{Document}
+use Rattle.cd_meaning.specs.Iri.{reserved_classes}
+use Rattle.cd_meaning.specs.Nodes.{nodes}
+use Rattle.cd_meaning.specs.Numbered.{has_numbers_below}
+use Rattle.cd_lex.specs.declared.token.Token.{Token}
+use Rattle.cd_lex.specs.Lexing.{IsLexing}
+use Rattle.cd_lex.specs.Tokens.{HasItems, Ending}
+use Rattle.cd_grammar.specs.declared.cause.Cause.{Cause}
+use Rattle.cd_grammar.specs.declared.item.Item.{Item}
+use Rattle.cd_grammar.specs.declared.known.Known.{Known}
+use Rattle.cd_grammar.specs.declared.parser.Parser.{Parser}
+use Rattle.cd_grammar.specs.declared.reader.Reader.{Reader}
+use Rattle.cd_grammar.specs.declared.refusal.Refusal.{Refusal}
+use Rattle.cd_grammar.specs.declared.symbol.Symbol.{Symbol}
+use Rattle.cd_grammar.specs.Causes.{refusal_at, cause_of, Standing, Going, Stopped, stand_after}
+use Rattle.cd_grammar.specs.Fault.{IsFault}
+use Rattle.cd_grammar.specs.Grammar.{IsRead, IsOnly, begun}
+use Rattle.cd_grammar.specs.Machine.{State}
+use Rattle.cd_grammar.specs.Items.{placed_items, all_of, item_at, place_at}
+
+-- ---- what a text is
+
+-- the text is no document
+abbrev pub IsUnread : List ℕ → Type 0
+IsUnread bytes = (document : Document) → IsRead bytes document → ⊥
+
+-- the text has this first fault
+abbrev pub IsFaulty : List ℕ → Refusal → Type 0
+IsFaulty bytes refusal = (tokens : List Token) × (ending : Ending) × HasItems bytes tokens ending × (n : ℕ) × (cause : Cause)
+    × IsFault (map item_at (all_of tokens ending)) n cause × (refusal ≡ refusal_at cause (place_at (all_of tokens ending) n))
+
+-- an input is refused so, of which at most so many bytes are taken
+abbrev pub IsRefused : List ℕ → ℕ → Refusal → Type 0
+IsRefused input most (Refusal.TooLong n) = (most < length input) × (n ≡ most + 1)
+IsRefused input most refusal = (length input ≤ most) × IsFaulty input refusal × IsUnread input
+
+-- ---- what a document keeps to
+
+-- it has at most n nodes, n roles, and n classes beside owl:Thing and owl:Nothing
+abbrev pub IsWithin : ℕ → Document → Type 0
+IsWithin n document = (nodes document.axioms ≤ n) × (length document.classes ≤ n + 2) × (length document.roles ≤ n)
+
+-- what is known can be a document
+pub record IsSound (known : Known) : Type 0 where
+  pub numbered : IsTrue (list_all (has_numbers_below (length known.classes) (length known.roles)) known.axioms)
+  pub reserved : take 2 known.classes ≡ reserved_classes
+  pub distinct_classes : AllPairs (λ a b. a ≢ b) known.classes
+  pub distinct_roles : AllPairs (λ a b. a ≢ b) known.roles
+
+-- ---- what a reader means
+
+abbrev pub standing : Parser → Standing
+standing parser = elim parser.stopped [ Some refusal ↦ Stopped refusal | None ↦ Going parser.known parser.stack ]
+
+abbrev pub started : Standing
+started = Going begun (Symbol.Document ∷ [])
+
+-- the reader was fed these bytes in all, and the input has not ended
+pub record IsReading (reader : Reader) (fed : List ℕ) : Type 0 where
+  pub taken : List Token
+  pub lexing : IsLexing reader.lexer fed taken
+  pub stands : standing reader.parser ≡ fold stand_after started (placed_items taken)
+  pub unclosed : reader.lexer.closed ≡ false
+  pub place : reader.lexer.place ≤ length fed
+
+-- what a reader answers at the end of these bytes
+abbrev pub IsFinished : List ℕ → Result Document Refusal → Type 0
+IsFinished fed (Ok document) = IsRead fed document × IsOnly fed document × IsWithin (length fed) document × All IsIri document.classes
+IsFinished fed (Err refusal) = IsFaulty fed refusal × IsUnread fed
+
+-- ---- one item
+
+-- what a parser says of an item that leads to this state, if it can be taken
+abbrev pub IsTried : Option State → Parser → Parser → Item → Option Cause → Type 0
+IsTried (Some state) before after item found = (found ≡ None) × (after.known ≡ state.0) × (after.stack ≡ state.1) × (after.stopped ≡ before.stopped)
+IsTried None before after item found = (found ≡ Some (cause_of before.known before.stack item)) × (after.stopped ≡ before.stopped)

@@ -1,0 +1,122 @@
+//! The document that a source gives.
+ghost use Rattle.std.specs.Prelude.{◌≡◌, ◌≤◌, ◌<◌, ◌^◌, ◌⊎◌, true, length, List, ℕ, Some, Err, [], IfSome, IfOk, OnOk, IsErrOf, All, vec_len};
+ghost use Rattle.std.specs.Io.KnownBytes.{IsAtEnd};
+ghost use Rattle.cd_base.specs.Iri.{IsIri};
+ghost use Rattle.cd_io.specs.Causes.{Rose};
+ghost use Rattle.cd_grammar.specs.Grammar.{IsRead, IsOnly};
+ghost use Rattle.cd_grammar.specs.Reading.{IsReading, IsRefused, IsWithin};
+ghost use Rattle.cd_grammar.specs.Taking.{IsFedFrom};
+ghost use Rattle.cd_grammar.specs.declared.refusal.Refusal.{Refusal};
+
+use crate::reader::Reader;
+use crate::refusal::Refusal;
+use cd_base::{Limits, Memory};
+use cd_io::Source;
+use cd_meaning::Document;
+use std::alloc::Global;
+use thiserror::Error;
+
+/// Why an input gives no document.
+#[derive(Clone, Copy, Debug, PartialEq, Eq, Error)]
+pub enum ReadRefusal {
+    /// The input is no accepted document, or is longer than the limit.
+    #[error("{0}")]
+    Refused(Refusal),
+    #[error("reading failed")]
+    ReadFault,
+    #[error("out of memory")]
+    Memory,
+}
+
+impl From<Memory> for ReadRefusal {
+    ghost use Rattle.std.specs.Prelude.{◌≡◌};
+    ghost use Rattle.cd_grammar.specs.declared.input.ReadRefusal.{ReadRefusal};
+
+    ghost from_gives = { λ _ e. e ≡ ReadRefusal.Memory };
+
+    fn from(_: Memory) -> Self {
+        ReadRefusal::Memory
+    }
+}
+
+/// How many bytes one read asks for at most.
+const PIECE: usize = 65_536;
+
+/// The document that the bytes of a source are, up to its end. Linear in the bytes, however the source cuts them. What is held beside
+/// the document are the bytes of one read and the unfinished token.
+///
+/// All of the input is taken before it is judged, and never more than one byte past the limit.
+pub fn read_document<S: Source>(
+    alloc: Global,
+    source: &mut S,
+    limits: &Limits,
+) -> Result<Document, ReadRefusal>
+    // The input was an accepted document, read to its end.
+    ensures read { IfSome (S.left source.old) (λ input. IfOk result (λ document.
+        (length input ≤ limits.now.max_bytes) × (S.left source.new ≡ Some []) × IsRead input document)) }
+    ensures only { IfSome (S.left source.old) (λ input. IfOk result (IsOnly input)) }
+    ensures ended { OnOk result (S.ended source.new ≡ true) }
+    ensures after { OnOk result (S.after source.new ≡ S.after source.old) }
+
+    // How large the document is, and of which bytes its names are.
+    ensures within { IfOk result (λ document. IsWithin limits.now.max_bytes document) }
+    ensures small { IfSome (S.left source.old) (λ input. IfOk result (λ document. IsWithin (length input) document)) }
+    ensures iris { IfOk result (λ document. All IsIri document.classes) }
+
+    // Each refusal has its cause.
+    ensures refused { IfSome (S.left source.old) (λ input. (refusal : Refusal) → result ≡ Err (ReadRefusal.Refused refusal)
+        → IsRefused input limits.now.max_bytes refusal) }
+    ensures read_fault { IsErrOf result ReadRefusal.ReadFault → Rose (S.faults source.old) (S.faults source.new) }
+{
+    let most = limits.max_bytes + 1;
+    let mut reader = Reader::new(alloc)?;
+    let count = feed_all(alloc, source, &mut reader, most)?;
+    if count == most {
+        return Err(ReadRefusal::Refused(Refusal::TooLong(most)));
+    }
+    match reader.finish(alloc)? {
+        Ok(document) => Ok(document),
+        Err(refusal) => Err(ReadRefusal::Refused(refusal)),
+    }
+}
+
+/// Feeds a reader all that a source has left, or its first `most` bytes where it has more. How many they are. Linear in these bytes.
+fn feed_all<S: Source>(
+    alloc: Global,
+    source: &mut S,
+    reader: &mut Reader,
+    most: u64,
+) -> Result<u64, ReadRefusal>
+    requires fresh { IsReading reader.old [] }
+    requires few { most < 2 ^ 31 }
+    ensures fed { IfOk result (λ count. IsFedFrom (S.left source.old) (S.left source.new) reader.new count) }
+    ensures within { IfOk result (λ count. count ≤ most) }
+    ensures end { IfOk result (λ count. ((S.ended source.new ≡ true) × IsAtEnd (S.left source.new)) ⊎ (count ≡ most)) }
+    ensures after { OnOk result (S.after source.new ≡ S.after source.old) }
+    ensures later { S.faults source.old ≤ S.faults source.new }
+    ensures unjudged { (refusal : Refusal) → result ≡ Err (ReadRefusal.Refused refusal) → ⊥ }
+    ensures fault { IsErrOf result ReadRefusal.ReadFault → Rose (S.faults source.old) (S.faults source.new) }
+{
+    let mut buf = buffer(alloc, PIECE)?;
+    let mut count: u64 = 0;
+    while count < most {
+        let room = PIECE.min((most - count) as usize);
+        let piece = buf.as_mut_slice();
+        match source.read(&mut piece[..room]) {
+            Ok(0) => return Ok(count),
+            Ok(got) => {
+                reader.feed(alloc, &piece[..got])?;
+                count += got as u64;
+            }
+            Err(_) => return Err(ReadRefusal::ReadFault),
+        }
+    }
+    Ok(count)
+}
+
+/// A buffer of that many bytes. Linear in them.
+fn buffer(alloc: Global, size: usize) -> Result<Vec<u8>, Memory>
+    ensures { IfOk result (λ v. vec_len v ≡ size) }
+{
+    Ok(vec![in alloc; 0; size]?)
+}

@@ -1,0 +1,499 @@
+//! What may stand at each place of a document, one item after another.
+ghost use Rattle.std.specs.Prelude.{◌≡◌, ◌∷◌, [], ◌<◌, ◌-◌, ◌^◌, true, length, is_some, IfOk};
+ghost use Rattle.std.specs.Str.{bytes_eq};
+ghost use Rattle.cd_grammar.specs.Grammar.{nesting, top_role, bottom_role};
+ghost use Rattle.cd_grammar.specs.Machine.{IsTaken, IsClassNamed, IsRoleNamed, iri_of, is_subject, is_role, is_mark, is_plain, noted, notes_taken, axioms_taken, ontology_iri_taken, given, closed, deeper, head_taken, operand_taken, inside_taken, wants_head_next, wants_part_next, advance};
+ghost use Rattle.cd_grammar.specs.Operands.{made_of};
+ghost use Rattle.cd_grammar.specs.declared.item.Item.{Item};
+ghost use Rattle.cd_grammar.specs.declared.symbol.Symbol.{Symbol};
+ghost use Rattle.cd_grammar.specs.declared.words.Form.{Form};
+ghost use Rattle.cd_grammar.specs.declared.words.Key.{Key};
+
+use crate::item::Item;
+use crate::known::Known;
+use crate::operands::{Made, has_class_head, make, wants_head, wants_part};
+use crate::symbol::{Frame, Stack, Symbol};
+use crate::words::{ExprForm, Form, Key};
+use cd_base::{Memory, Seq};
+use cd_meaning::Expr;
+use cd_names::{DeclareFault, ExpandFault};
+use std::alloc::Global;
+
+/// At most so many annotations, and so many constructors, stand inside each other.
+const NESTING: u64 = 256;
+
+/// Whether the item stands for an IRI. One look-up.
+fn is_iri(known: &Known, item: &Item) -> bool
+    ensures { result ≡ is_some (iri_of known.now item.now) }
+{
+    match item {
+        Item::FullIri(_) => true,
+        Item::Short(prefix, _) => known.prefixes.contains(prefix.items()),
+        _ => false,
+    }
+}
+
+/// Whether the item stands for an IRI, or for an anonymous individual with a name. One look-up.
+fn is_subject(known: &Known, item: &Item) -> bool
+    ensures { result ≡ is_subject known.now item.now }
+{
+    match item {
+        Item::Node(label) => !label.items().is_empty(),
+        _ => is_iri(known, item),
+    }
+}
+
+/// The class that the item stands for, by its number. Two look-ups.
+fn class(alloc: Global, known: &mut Known, item: &Item) -> Result<Option<u32>, Memory>
+    requires { length known.old.classes < 2 ^ 32 - 1 }
+    ensures { IfOk result (λ found. IsClassNamed (iri_of known.old item.now) known.old known.new found) }
+{
+    match item {
+        Item::FullIri(iri) => Ok(Some(known.classes.add(iri.items())?)),
+        Item::Short(prefix, local) => match known
+            .prefixes
+            .expand(alloc, prefix.items(), local.items())
+        {
+            Ok(iri) => Ok(Some(known.classes.add(iri.items())?)),
+            Err(ExpandFault::Unknown) => Ok(None),
+            Err(ExpandFault::Memory) => Err(Memory),
+        },
+        _ => Ok(None),
+    }
+}
+
+/// The role that the item stands for, by its number, if it may be one. Two look-ups.
+fn role(alloc: Global, known: &mut Known, item: &Item) -> Result<Option<u32>, Memory>
+    requires { length known.old.roles < 2 ^ 32 - 1 }
+    ensures { IfOk result (λ found. IsRoleNamed (iri_of known.old item.now) known.old known.new found) }
+{
+    match item {
+        Item::FullIri(iri) => role_of(known, iri.items()),
+        Item::Short(prefix, local) => match known
+            .prefixes
+            .expand(alloc, prefix.items(), local.items())
+        {
+            Ok(iri) => role_of(known, iri.items()),
+            Err(ExpandFault::Unknown) => Ok(None),
+            Err(ExpandFault::Memory) => Err(Memory),
+        },
+        _ => Ok(None),
+    }
+}
+
+/// The role of this IRI, by its number, if it may be one. One look-up.
+fn role_of(known: &mut Known, iri: &[u8]) -> Result<Option<u32>, Memory>
+    requires { length known.old.roles < 2 ^ 32 - 1 }
+    ensures { IfOk result (λ found. IsRoleNamed (Some iri.now) known.old known.new found) }
+{
+    if !is_role(iri) {
+        return Ok(None);
+    }
+    Ok(Some(known.roles.add(iri)?))
+}
+
+/// Whether a role may have this IRI. Constant time.
+fn is_role(iri: &[u8]) -> bool
+    ensures { result ≡ is_role iri.now }
+{
+    iri != b"http://www.w3.org/2002/07/owl#topObjectProperty".as_slice()
+        && iri != b"http://www.w3.org/2002/07/owl#bottomObjectProperty".as_slice()
+}
+
+/// Takes the word of an annotation, if so many more may stand inside each other.
+fn noted(known: &Known, stack: &mut Stack, nesting: u64) -> Result<bool, Memory>
+    ensures { IfOk result (λ ok. IsTaken (noted nesting known.now stack.old) known.now known.now stack.new ok) }
+{
+    if nesting == 0 {
+        return Ok(false);
+    }
+    stack.push(Symbol::NoteIn(nesting - 1))?;
+    stack.push(Symbol::Opening)?;
+    Ok(true)
+}
+
+/// Takes what begins an axiom, or ends the ontology.
+fn axioms(known: &Known, stack: &mut Stack, item: &Item) -> Result<bool, Memory>
+    ensures { IfOk result (λ ok. IsTaken (axioms_taken known.now item.now stack.old) known.now known.now stack.new ok) }
+{
+    if let Item::Closing = item {
+        stack.push(Symbol::End)?;
+        return Ok(true);
+    }
+    let inside = match item {
+        Item::Word(Key::Declaration) => Symbol::DeclarationIn,
+        Item::Word(Key::Axiom(form)) => Symbol::AxiomIn(*form),
+        Item::Word(Key::AnnotationAssertion) => Symbol::AssertionIn,
+        Item::Word(Key::AnnotationAxiom) => Symbol::AnnotationAxiomIn,
+        _ => return Ok(false),
+    };
+    stack.push(Symbol::Axioms)?;
+    stack.push(inside)?;
+    stack.push(Symbol::Opening)?;
+    Ok(true)
+}
+
+/// Takes what begins an annotation of the ontology or an axiom, or ends the ontology.
+fn notes(known: &Known, stack: &mut Stack, item: &Item) -> Result<bool, Memory>
+    ensures { IfOk result (λ ok. IsTaken (notes_taken nesting known.now item.now stack.old) known.now known.now stack.new ok) }
+{
+    if let Item::Word(Key::Annotation) = item {
+        stack.push(Symbol::Notes)?;
+        return noted(known, stack, NESTING);
+    }
+    axioms(known, stack, item)
+}
+
+/// Takes an IRI of the ontology, or what follows its IRIs.
+fn ontology_iri(known: &Known, stack: &mut Stack, item: &Item, next: Symbol) -> Result<bool, Memory>
+    ensures { IfOk result (λ ok. IsTaken (ontology_iri_taken nesting known.now item.now next stack.old) known.now known.now stack.new ok) }
+{
+    match item {
+        Item::FullIri(_) | Item::Short(_, _) => {
+            stack.push(next)?;
+            Ok(is_iri(known, item))
+        }
+        _ => notes(known, stack, item),
+    }
+}
+
+/// Takes what begins a prefix declaration or the ontology.
+fn document(known: &Known, stack: &mut Stack, item: &Item) -> Result<bool, Memory>
+    ensures { IfOk result (λ ok. IsTaken (advance nesting known.now Symbol.Document item.now stack.old) known.now known.now stack.new ok) }
+{
+    let inside = match item {
+        Item::Word(Key::Prefix) => Symbol::Binding,
+        Item::Word(Key::Ontology) => Symbol::OntologyIri,
+        _ => return Ok(false),
+    };
+    stack.push(inside)?;
+    stack.push(Symbol::Opening)?;
+    Ok(true)
+}
+
+/// Takes the name of a prefix.
+fn binding(alloc: Global, known: &Known, stack: &mut Stack, item: &Item) -> Result<bool, Memory>
+    ensures { IfOk result (λ ok. IsTaken (advance nesting known.now Symbol.Binding item.now stack.old) known.now known.now stack.new ok) }
+{
+    let Item::Short(prefix, local) = item else {
+        return Ok(false);
+    };
+    if !local.items().is_empty() {
+        return Ok(false);
+    }
+    let prefix = Seq::of(prefix.items().to_vec(alloc)?);
+    stack.push(Symbol::Document)?;
+    stack.push(Symbol::Closing)?;
+    stack.push(Symbol::PrefixIri(prefix))?;
+    stack.push(Symbol::Equals)?;
+    Ok(true)
+}
+
+/// Takes the IRI of a prefix. Two look-ups.
+fn prefix_iri(
+    alloc: Global,
+    known: &mut Known,
+    stack: &Stack,
+    prefix: &Seq<u8>,
+    item: &Item,
+) -> Result<bool, Memory>
+    ensures { IfOk result (λ ok. IsTaken (advance nesting known.old (Symbol.PrefixIri prefix.now) item.now stack.now) known.old known.new stack.now ok) }
+{
+    let Item::FullIri(iri) = item else {
+        return Ok(false);
+    };
+    match known.prefixes.declare(alloc, prefix.items(), iri.items()) {
+        Ok(()) => Ok(true),
+        Err(DeclareFault::Clash) => Ok(false),
+        Err(DeclareFault::Memory) => Err(Memory),
+    }
+}
+
+/// Takes an annotation of a declaration, or the word of its entity.
+fn declaration_in(known: &Known, stack: &mut Stack, item: &Item) -> Result<bool, Memory>
+    ensures { IfOk result (λ ok. IsTaken (advance nesting known.now Symbol.DeclarationIn item.now stack.old) known.now known.now stack.new ok) }
+{
+    let inside = match item {
+        Item::Word(Key::Annotation) => {
+            stack.push(Symbol::DeclarationIn)?;
+            return noted(known, stack, NESTING);
+        }
+        Item::Word(Key::Class) => Symbol::Class,
+        Item::Word(Key::Entity) => Symbol::Iri,
+        _ => return Ok(false),
+    };
+    stack.push(Symbol::Closing)?;
+    stack.push(Symbol::Closing)?;
+    stack.push(inside)?;
+    stack.push(Symbol::Opening)?;
+    Ok(true)
+}
+
+/// Takes an annotation of an assertion, or its property.
+fn assertion_in(known: &Known, stack: &mut Stack, item: &Item) -> Result<bool, Memory>
+    ensures { IfOk result (λ ok. IsTaken (advance nesting known.now Symbol.AssertionIn item.now stack.old) known.now known.now stack.new ok) }
+{
+    if let Item::Word(Key::Annotation) = item {
+        stack.push(Symbol::AssertionIn)?;
+        return noted(known, stack, NESTING);
+    }
+    stack.push(Symbol::Value)?;
+    stack.push(Symbol::Subject)?;
+    Ok(is_iri(known, item))
+}
+
+/// Takes an annotation of an axiom on annotations, or its property.
+fn annotation_axiom_in(known: &Known, stack: &mut Stack, item: &Item) -> Result<bool, Memory>
+    ensures { IfOk result (λ ok. IsTaken (advance nesting known.now Symbol.AnnotationAxiomIn item.now stack.old) known.now known.now stack.new ok) }
+{
+    if let Item::Word(Key::Annotation) = item {
+        stack.push(Symbol::AnnotationAxiomIn)?;
+        return noted(known, stack, NESTING);
+    }
+    stack.push(Symbol::Closing)?;
+    stack.push(Symbol::Iri)?;
+    Ok(is_iri(known, item))
+}
+
+/// Takes an annotation of an annotation, or its property.
+fn note_in(known: &Known, stack: &mut Stack, item: &Item, inner: u64) -> Result<bool, Memory>
+    ensures { IfOk result (λ ok. IsTaken (advance nesting known.now (Symbol.NoteIn inner) item.now stack.old) known.now known.now stack.new ok) }
+{
+    if let Item::Word(Key::Annotation) = item {
+        stack.push(Symbol::NoteIn(inner))?;
+        return noted(known, stack, inner);
+    }
+    stack.push(Symbol::Value)?;
+    Ok(is_iri(known, item))
+}
+
+/// Takes the value of an annotation, or the string that it begins with.
+fn value(known: &Known, stack: &mut Stack, item: &Item) -> Result<bool, Memory>
+    ensures { IfOk result (λ ok. IsTaken (advance nesting known.now Symbol.Value item.now stack.old) known.now known.now stack.new ok) }
+{
+    if let Item::Quoted = item {
+        stack.push(Symbol::QuotedEnd)?;
+        return Ok(true);
+    }
+    stack.push(Symbol::Closing)?;
+    Ok(is_subject(known, item))
+}
+
+/// Takes what follows the string of a value.
+fn quoted_end(known: &Known, stack: &mut Stack, item: &Item) -> Result<bool, Memory>
+    ensures { IfOk result (λ ok. IsTaken (advance nesting known.now Symbol.QuotedEnd item.now stack.old) known.now known.now stack.new ok) }
+{
+    match item {
+        Item::Closing => Ok(true),
+        Item::Lang => {
+            stack.push(Symbol::Closing)?;
+            Ok(true)
+        }
+        Item::Carets => {
+            stack.push(Symbol::Closing)?;
+            stack.push(Symbol::Iri)?;
+            Ok(true)
+        }
+        _ => Ok(false),
+    }
+}
+
+/// Hands an expression to the operands that are wanted first.
+fn give(known: &Known, stack: &mut Stack, expression: Expr) -> Result<bool, Memory>
+    ensures { IfOk result (λ ok. IsTaken (given known.now expression stack.old) known.now known.now stack.new ok) }
+{
+    let Some(Symbol::Inside(mut frame)) = stack.pop() else {
+        return Ok(false);
+    };
+    frame.parts.push(expression)?;
+    stack.push(Symbol::Inside(frame))?;
+    Ok(true)
+}
+
+/// Takes the parenthesis behind operands, if they are as many as their form has.
+fn close(alloc: Global, known: &mut Known, stack: &mut Stack, frame: Frame) -> Result<bool, Memory>
+    ensures { IfOk result (λ ok. IsTaken (closed known.old (made_of frame.form frame.heads frame.parts) stack.old) known.old known.new stack.new ok) }
+{
+    match make(alloc, frame.form, frame.heads, frame.parts)? {
+        None => Ok(false),
+        Some(Made::Axiom(axiom)) => {
+            known.axioms.push(axiom)?;
+            Ok(true)
+        }
+        Some(Made::Expr(expression)) => give(known, stack, expression),
+    }
+}
+
+/// Takes the word of an expression among operands.
+fn deepen(
+    alloc: Global,
+    known: &Known,
+    stack: &mut Stack,
+    frame: Frame,
+    form: ExprForm,
+) -> Result<bool, Memory>
+    ensures { IfOk result (λ ok. IsTaken (deeper (wants_part_next frame) frame.nesting known.now form (Symbol.Inside frame ∷ stack.old)) known.now known.now stack.new ok) }
+{
+    if !wants_part(
+        frame.form,
+        frame.heads.items().len(),
+        frame.parts.items().len(),
+    ) || frame.nesting == 0
+    {
+        return Ok(false);
+    }
+    let inner = Frame::bare(alloc, Form::Expr(form), frame.nesting - 1);
+    stack.push(Symbol::Inside(frame))?;
+    stack.push(Symbol::Inside(inner))?;
+    stack.push(Symbol::Opening)?;
+    Ok(true)
+}
+
+/// Takes a role, or the class in its place.
+fn head(
+    alloc: Global,
+    known: &mut Known,
+    stack: &mut Stack,
+    mut frame: Frame,
+    item: &Item,
+) -> Result<bool, Memory>
+    requires classes { length known.old.classes < 2 ^ 32 - 1 }
+    requires roles { length known.old.roles < 2 ^ 32 - 1 }
+    ensures { IfOk result (λ ok. wants_head_next frame ≡ true → IsTaken (operand_taken known.old frame stack.old (iri_of known.old item.now)) known.old known.new stack.new ok) }
+{
+    let found = if has_class_head(frame.form) {
+        class(alloc, known, item)?
+    } else {
+        role(alloc, known, item)?
+    };
+    let Some(number) = found else {
+        return Ok(false);
+    };
+    frame.heads.push(number)?;
+    stack.push(Symbol::Inside(frame))?;
+    Ok(true)
+}
+
+/// Takes a role or a class among operands.
+fn operand(
+    alloc: Global,
+    known: &mut Known,
+    stack: &mut Stack,
+    mut frame: Frame,
+    item: &Item,
+) -> Result<bool, Memory>
+    requires classes { length known.old.classes < 2 ^ 32 - 1 }
+    requires roles { length known.old.roles < 2 ^ 32 - 1 }
+    ensures { IfOk result (λ ok. IsTaken (operand_taken known.old frame stack.old (iri_of known.old item.now)) known.old known.new stack.new ok) }
+{
+    let heads = frame.heads.items().len();
+    let parts = frame.parts.items().len();
+    if wants_head(frame.form, heads, parts) {
+        return head(alloc, known, stack, frame, item);
+    }
+    if !wants_part(frame.form, heads, parts) {
+        return Ok(false);
+    }
+    let Some(number) = class(alloc, known, item)? else {
+        return Ok(false);
+    };
+    frame.parts.push(Expr::Name(number))?;
+    stack.push(Symbol::Inside(frame))?;
+    Ok(true)
+}
+
+/// Takes an item among operands.
+fn inside(
+    alloc: Global,
+    known: &mut Known,
+    stack: &mut Stack,
+    frame: Frame,
+    item: &Item,
+) -> Result<bool, Memory>
+    requires classes { length known.old.classes < 2 ^ 32 - 1 }
+    requires roles { length known.old.roles < 2 ^ 32 - 1 }
+    ensures { IfOk result (λ ok. IsTaken (inside_taken known.old frame item.now stack.old) known.old known.new stack.new ok) }
+{
+    match item {
+        Item::Closing => close(alloc, known, stack, frame),
+        Item::Word(Key::Expr(form)) => deepen(alloc, known, stack, frame, *form),
+        _ => operand(alloc, known, stack, frame, item),
+    }
+}
+
+/// Takes what stands at a place that leaves what is known as it is.
+fn advance_plain(
+    alloc: Global,
+    known: &Known,
+    stack: &mut Stack,
+    symbol: Symbol,
+    item: &Item,
+) -> Result<bool, Memory>
+    ensures { IfOk result (λ ok. is_plain symbol ≡ true → IsTaken (advance nesting known.now symbol item.now stack.old) known.now known.now stack.new ok) }
+{
+    match symbol {
+        Symbol::Iri => Ok(is_iri(known, item)),
+        Symbol::Subject => Ok(is_subject(known, item)),
+        Symbol::Document => document(known, stack, item),
+        Symbol::Binding => binding(alloc, known, stack, item),
+        Symbol::OntologyIri => ontology_iri(known, stack, item, Symbol::VersionIri),
+        Symbol::VersionIri => ontology_iri(known, stack, item, Symbol::Notes),
+        Symbol::Notes => notes(known, stack, item),
+        Symbol::Axioms => axioms(known, stack, item),
+        Symbol::DeclarationIn => declaration_in(known, stack, item),
+        Symbol::AssertionIn => assertion_in(known, stack, item),
+        Symbol::AnnotationAxiomIn => annotation_axiom_in(known, stack, item),
+        Symbol::NoteIn(inner) => note_in(known, stack, item, inner),
+        Symbol::Value => value(known, stack, item),
+        Symbol::QuotedEnd => quoted_end(known, stack, item),
+        _ => Ok(is_mark(&symbol, item)),
+    }
+}
+
+/// Whether the item is the mark that is wanted.
+fn is_mark(symbol: &Symbol, item: &Item) -> bool
+    ensures { result ≡ is_mark symbol.now item.now }
+{
+    match (symbol, item) {
+        (Symbol::Opening, Item::Opening)
+        | (Symbol::Closing, Item::Closing)
+        | (Symbol::Equals, Item::Equals)
+        | (Symbol::End, Item::End) => true,
+        _ => false,
+    }
+}
+
+/// Takes an item at the place of a symbol. Whether it can stand there.
+///
+/// Constant time, but for look-ups of the IRIs that it names.
+pub(crate) fn advance(
+    alloc: Global,
+    known: &mut Known,
+    stack: &mut Stack,
+    symbol: Symbol,
+    item: &Item,
+) -> Result<bool, Memory>
+    requires classes { length known.old.classes < 2 ^ 32 - 1 }
+    requires roles { length known.old.roles < 2 ^ 32 - 1 }
+    ensures { IfOk result (λ ok. IsTaken (advance nesting known.old symbol item.now stack.old) known.old known.new stack.new ok) }
+{
+    match symbol {
+        Symbol::Class => Ok(class(alloc, known, item)?.is_some()),
+        Symbol::PrefixIri(prefix) => prefix_iri(alloc, known, stack, &prefix, item),
+        Symbol::AxiomIn(form) => {
+            if let Item::Word(Key::Annotation) = item {
+                stack.push(Symbol::AxiomIn(form))?;
+                return noted(known, stack, NESTING);
+            }
+            inside(
+                alloc,
+                known,
+                stack,
+                Frame::bare(alloc, Form::Axiom(form), NESTING),
+                item,
+            )
+        }
+        Symbol::Inside(frame) => inside(alloc, known, stack, frame, item),
+        other => advance_plain(alloc, known, stack, other, item),
+    }
+}
