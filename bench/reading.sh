@@ -1,7 +1,7 @@
 #!/usr/bin/env bash
 # What reading costs. First a document as editors write it (prefixes, declarations, comments, labels and annotated subsumptions of n
-# classes): the seconds of `condor classify` and of `wc -w` on the same file, the best of three each, their ratio, and the peak memory as
-# a multiple of the file. Then one string and one comment of some bytes and of four times as many, fed a byte at a time through a pipe:
+# classes), and one that has every construct, with expressions nested 256 deep: the seconds of `condor classify` and of `wc -w` on the
+# same file, the best of three each, their ratio, and the peak memory as a multiple of the file. Then one string and one comment of some bytes and of four times as many, fed a byte at a time through a pipe:
 # the ratio of the two times. It judges nothing. Needs GNU time, dd and awk.
 #
 #   bench/reading.sh [classes, 230000] [bytes of the string and of the comment, 2500000]
@@ -30,6 +30,22 @@ document() {
   }'
 }
 
+# Every axiom and every class expression for each of n / 10 classes, and an expression nested 256 deep for each 500th.
+constructs() {
+  awk -v n="$1" 'BEGIN {
+    for (i = 0; i < 256; i++) { open = open "ObjectComplementOf("; close_ = close_ ")" }
+    print "Prefix(:=<http://example.org/terms#>)\nOntology(<http://example.org/terms>"
+    for (i = 1; i < n / 10; i++) {
+      printf "SubClassOf(:C%d ObjectSomeValuesFrom(:r%d ObjectIntersectionOf(:C%d ObjectAllValuesFrom(:s :C%d))))\n", i, i % 40, int(i / 3), int(i / 7)
+      printf "EquivalentClasses(:D%d ObjectUnionOf(:C%d ObjectComplementOf(:C%d)))\n", i, i, int(i / 5)
+      printf "DisjointClasses(Annotation(rdfs:comment \"apart\") :C%d :D%d)\nDisjointUnion(:E%d :C%d :D%d)\n", i, i, i, i, i
+      printf "SubObjectPropertyOf(:r%d :s)\nEquivalentObjectProperties(:r%d :t%d)\nObjectPropertyDomain(:r%d :C%d)\nObjectPropertyRange(:s :E%d)\n", i % 40, i % 40, i % 40, i % 40, i, i
+      if (i % 500 == 0) printf "SubClassOf(:C%d %s:C%d%s)\n", i, open, i, close_
+    }
+    print ")"
+  }'
+}
+
 # A document of one annotation with a string, or of one comment, of so many bytes.
 string() { printf 'Ontology(Annotation(<x:a> "'; head -c "$1" /dev/zero | tr '\0' 'a'; printf '"))'; }
 comment() { printf 'Ontology(#'; head -c "$1" /dev/zero | tr '\0' 'a'; printf '\n)'; }
@@ -40,7 +56,7 @@ measure() {
   shift
   for _ in 1 2 3; do
     start=$EPOCHREALTIME
-    command time -f '%M' -o "$folder/peak" "$@" <"$file" >"$folder/out"
+    command time -q -f '%M' -o "$folder/peak" "$@" <"$file" >"$folder/out" 2>"$folder/notes" || true
     echo "$start $EPOCHREALTIME $(cat "$folder/peak")"
   done | awk '{ t = $2 - $1 } NR == 1 || t < least { least = t } $3 > peak { peak = $3 } END { printf "%.4f %d\n", least, peak }'
 }
@@ -56,17 +72,21 @@ grow() {
   "$1" "$2" >"$folder/small.ofn"
   "$1" "$(($2 * 4))" >"$folder/large.ofn"
   echo "$1 $2 $(fed_by_bytes "$folder/small.ofn") $(fed_by_bytes "$folder/large.ofn")" | awk '{
-    printf "%-8s %9d bytes %7.3f s   %9d bytes %7.3f s   ratio %.1f\n", $1, $2, $3, $2 * 4, $4, ($3 > 0 ? $4 / $3 : 0)
+    printf "%-10s %9d bytes %7.3f s   %9d bytes %7.3f s   ratio %.1f\n", $1, $2, $3, $2 * 4, $4, ($3 > 0 ? $4 / $3 : 0)
   }'
 }
 
 # The first call builds the program, which is no part of what is measured.
 echo 'Ontology()' | "$top/condor" classify >/dev/null
-document "$classes" >"$folder/document.ofn"
-size=$(stat -c %s "$folder/document.ofn")
-echo "$size $(measure "$folder/document.ofn" "$top/crates/condor/out/condor" classify) $(measure "$folder/document.ofn" wc -w)" | awk '{
-  printf "document %9.1f MB   condor %.3f s   wc -w %.3f s   ratio %.1f   peak %.1f MB, %.1f times the document\n",
-    $1 / 1e6, $2, $4, ($4 > 0 ? $2 / $4 : 0), $3 * 1024 / 1e6, $3 * 1024 / $1
-}'
+read_beside_words() {
+  "$1" "$classes" >"$folder/document.ofn"
+  echo "$1 $(stat -c %s "$folder/document.ofn") $(measure "$folder/document.ofn" "$top/crates/condor/out/condor" classify) $(measure "$folder/document.ofn" wc -w)" | awk '{
+    printf "%-10s %9.1f MB   condor %.3f s   wc -w %.3f s   ratio %.1f   peak %.1f MB, %.1f times the document\n",
+      $1, $2 / 1e6, $3, $5, ($5 > 0 ? $3 / $5 : 0), $4 * 1024 / 1e6, $4 * 1024 / $2
+  }'
+}
+
+read_beside_words document
+read_beside_words constructs
 grow string "$bytes"
 grow comment "$bytes"
