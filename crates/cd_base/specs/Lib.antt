@@ -1,2 +1,4 @@
 pub mod Iri
 pub mod Limits
+pub mod Lists
+pub mod Normal

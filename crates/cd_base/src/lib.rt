@@ -8,6 +8,8 @@ mod answer;
 mod atom;
 mod limits;
 mod memory;
+mod normal;
+mod role;
 mod seq;
 #[cfg(test)]
 mod tests;
@@ -16,4 +18,6 @@ pub use answer::Answer;
 pub use atom::Atom;
 pub use limits::Limits;
 pub use memory::Memory;
+pub use normal::{Conj, Normal, RolePair, Triple};
+pub use role::Role;
 pub use seq::Seq;

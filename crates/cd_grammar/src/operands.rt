@@ -124,6 +124,7 @@ fn axiom(form: AxiomForm, heads: Seq<u32>, parts: Seq<Expr>) -> Option<Axiom>
     }
 }
 
+/// `SubClassOf`: two expressions. Structural Specification, section 9.1.1.
 fn sub_class(heads: &Seq<u32>, parts: Seq<Expr>) -> Option<Axiom>
     ensures { result ≡ axiom_of AxiomForm.SubClassOf heads.now parts }
 {
@@ -134,6 +135,7 @@ fn sub_class(heads: &Seq<u32>, parts: Seq<Expr>) -> Option<Axiom>
     Some(Axiom::SubClass(lower, upper))
 }
 
+/// `EquivalentClasses`: two expressions or more. Section 9.1.2.
 fn same_classes(heads: &Seq<u32>, parts: Seq<Expr>) -> Option<Axiom>
     ensures { result ≡ axiom_of AxiomForm.EquivalentClasses heads.now parts }
 {
@@ -143,6 +145,7 @@ fn same_classes(heads: &Seq<u32>, parts: Seq<Expr>) -> Option<Axiom>
     Some(Axiom::SameClasses(parts))
 }
 
+/// `DisjointClasses`: two expressions or more. Section 9.1.3.
 fn disjoint(heads: &Seq<u32>, parts: Seq<Expr>) -> Option<Axiom>
     ensures { result ≡ axiom_of AxiomForm.DisjointClasses heads.now parts }
 {
@@ -152,6 +155,7 @@ fn disjoint(heads: &Seq<u32>, parts: Seq<Expr>) -> Option<Axiom>
     Some(Axiom::Disjoint(parts))
 }
 
+/// `DisjointUnion`: a class, and two expressions or more. Section 9.1.4.
 fn disjoint_union(heads: &Seq<u32>, parts: Seq<Expr>) -> Option<Axiom>
     ensures { result ≡ axiom_of AxiomForm.DisjointUnion heads.now parts }
 {
@@ -162,6 +166,7 @@ fn disjoint_union(heads: &Seq<u32>, parts: Seq<Expr>) -> Option<Axiom>
     Some(Axiom::DisjointUnion(class, parts))
 }
 
+/// `SubObjectPropertyOf`: two roles. Section 9.2.1.
 fn sub_role(heads: &Seq<u32>, parts: &Seq<Expr>) -> Option<Axiom>
     ensures { result ≡ axiom_of AxiomForm.SubObjectPropertyOf heads.now parts.now }
 {
@@ -174,6 +179,7 @@ fn sub_role(heads: &Seq<u32>, parts: &Seq<Expr>) -> Option<Axiom>
     }
 }
 
+/// `EquivalentObjectProperties`: two roles or more. Section 9.2.2.
 fn same_roles(heads: Seq<u32>, parts: &Seq<Expr>) -> Option<Axiom>
     ensures { result ≡ axiom_of AxiomForm.EquivalentObjectProperties heads parts.now }
 {
@@ -183,6 +189,7 @@ fn same_roles(heads: Seq<u32>, parts: &Seq<Expr>) -> Option<Axiom>
     Some(Axiom::SameRoles(heads))
 }
 
+/// `ObjectPropertyDomain`: a role and an expression. Section 9.2.5.
 fn domain(heads: &Seq<u32>, parts: Seq<Expr>) -> Option<Axiom>
     ensures { result ≡ axiom_of AxiomForm.ObjectPropertyDomain heads.now parts }
 {
@@ -191,6 +198,7 @@ fn domain(heads: &Seq<u32>, parts: Seq<Expr>) -> Option<Axiom>
     Some(Axiom::Domain(role, class))
 }
 
+/// `ObjectPropertyRange`: a role and an expression. Section 9.2.6.
 fn range(heads: &Seq<u32>, parts: Seq<Expr>) -> Option<Axiom>
     ensures { result ≡ axiom_of AxiomForm.ObjectPropertyRange heads.now parts }
 {
@@ -217,6 +225,7 @@ fn expression(
     }
 }
 
+/// `ObjectIntersectionOf`: one expression or more. Section 8.1.1.
 fn meet(heads: &Seq<u32>, parts: Seq<Expr>) -> Option<Expr>
     ensures { result ≡ expression_of ExprForm.ObjectIntersectionOf heads.now parts }
 {
@@ -226,6 +235,7 @@ fn meet(heads: &Seq<u32>, parts: Seq<Expr>) -> Option<Expr>
     Some(Expr::Meet(Items::from_vec(parts.into_items())))
 }
 
+/// `ObjectUnionOf`: one expression or more. Section 8.1.2.
 fn join(heads: &Seq<u32>, parts: Seq<Expr>) -> Option<Expr>
     ensures { result ≡ expression_of ExprForm.ObjectUnionOf heads.now parts }
 {
@@ -235,6 +245,7 @@ fn join(heads: &Seq<u32>, parts: Seq<Expr>) -> Option<Expr>
     Some(Expr::Join(Items::from_vec(parts.into_items())))
 }
 
+/// `ObjectComplementOf`: one expression. Section 8.1.3.
 fn minus(alloc: Global, heads: &Seq<u32>, parts: Seq<Expr>) -> Result<Option<Expr>, Memory>
     ensures { IfOk result (λ made. made ≡ expression_of ExprForm.ObjectComplementOf heads.now parts) }
 {
@@ -247,6 +258,7 @@ fn minus(alloc: Global, heads: &Seq<u32>, parts: Seq<Expr>) -> Result<Option<Exp
     Ok(Some(Expr::Minus(Boxed::new(alloc, part)?)))
 }
 
+/// `ObjectSomeValuesFrom`: a role and an expression. Section 8.2.1.
 fn some_of(alloc: Global, heads: &Seq<u32>, parts: Seq<Expr>) -> Result<Option<Expr>, Memory>
     ensures { IfOk result (λ made. made ≡ expression_of ExprForm.ObjectSomeValuesFrom heads.now parts) }
 {
@@ -256,6 +268,7 @@ fn some_of(alloc: Global, heads: &Seq<u32>, parts: Seq<Expr>) -> Result<Option<E
     Ok(Some(Expr::SomeOf(role, Boxed::new(alloc, part)?)))
 }
 
+/// `ObjectAllValuesFrom`: a role and an expression. Section 8.2.2.
 fn all_of(alloc: Global, heads: &Seq<u32>, parts: Seq<Expr>) -> Result<Option<Expr>, Memory>
     ensures { IfOk result (λ made. made ≡ expression_of ExprForm.ObjectAllValuesFrom heads.now parts) }
 {

@@ -7,23 +7,36 @@ ghost use Rattle.std.specs.Option.{option_copied};
 /// An axiom on classes or roles, by its word. Structural Specification, sections 9.1 and 9.2.
 #[derive(Clone, Copy, Debug, PartialEq, Eq)]
 pub enum AxiomForm {
+    /// Section 9.1.1.
     SubClassOf,
+    /// Section 9.1.2.
     EquivalentClasses,
+    /// Section 9.1.3.
     DisjointClasses,
+    /// Section 9.1.4.
     DisjointUnion,
+    /// Section 9.2.1.
     SubObjectPropertyOf,
+    /// Section 9.2.2.
     EquivalentObjectProperties,
+    /// Section 9.2.5.
     ObjectPropertyDomain,
+    /// Section 9.2.6.
     ObjectPropertyRange,
 }
 
 /// A class expression with operands, by its word. Structural Specification, sections 8.1 and 8.2.
 #[derive(Clone, Copy, Debug, PartialEq, Eq)]
 pub enum ExprForm {
+    /// Section 8.1.1.
     ObjectIntersectionOf,
+    /// Section 8.1.2.
     ObjectUnionOf,
+    /// Section 8.1.3.
     ObjectComplementOf,
+    /// Section 8.2.1.
     ObjectSomeValuesFrom,
+    /// Section 8.2.2.
     ObjectAllValuesFrom,
 }
 
@@ -95,6 +108,7 @@ fn is(word: &[u8], text: &[u8]) -> bool
     word == text
 }
 
+/// The words of axioms on classes and roles.
 fn axiom_form(word: &[u8]) -> Option<AxiomForm>
     ensures { result ≡ entry axiom_forms word.now }
 {
@@ -125,6 +139,7 @@ fn axiom_form(word: &[u8]) -> Option<AxiomForm>
     None
 }
 
+/// The words of class expressions with operands.
 fn expr_form(word: &[u8]) -> Option<ExprForm>
     ensures { result ≡ entry expr_forms word.now }
 {
@@ -146,6 +161,7 @@ fn expr_form(word: &[u8]) -> Option<ExprForm>
     None
 }
 
+/// The other words that an accepted document may have.
 fn other_key(word: &[u8]) -> Option<Key>
     ensures { result ≡ entry other_words word.now }
 {

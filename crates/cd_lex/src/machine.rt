@@ -71,12 +71,14 @@ impl Lexer {
         self.from = self.place;
     }
 
+    /// Goes on in another mode.
     fn turn(&mut self, mode: Mode)
         ensures { self.new ≡ turn mode self.old }
     {
         self.mode = mode;
     }
 
+    /// Keeps a byte of the unfinished token.
     fn keep(&mut self, byte: u8) -> Result<(), Memory>
         ensures done { IfOk result (λ _. self.new ≡ keep byte self.old) }
         ensures beside { IsBeside self.old self.new }
@@ -122,6 +124,7 @@ impl Lexer {
         self.fault = Some(LexFault::BadByte(self.from));
     }
 
+    /// What is kept is a word.
     fn end_word(&mut self) -> Result<(), Memory>
         ensures done { IfOk result (λ _. self.new ≡ end_word self.old) }
         ensures beside { IsBeside self.old self.new }
@@ -130,6 +133,7 @@ impl Lexer {
         self.end(Kind::Word(word))
     }
 
+    /// The prefix and what is kept are a short name.
     fn end_short(&mut self) -> Result<(), Memory>
         ensures done { IfOk result (λ _. self.new ≡ end_short self.old) }
         ensures beside { IsBeside self.old self.new }
@@ -139,6 +143,7 @@ impl Lexer {
         self.end(Kind::Short(prefix, local))
     }
 
+    /// What is kept is the label of an anonymous individual.
     fn end_node(&mut self) -> Result<(), Memory>
         ensures done { IfOk result (λ _. self.new ≡ end_node self.old) }
         ensures beside { IsBeside self.old self.new }
@@ -147,6 +152,7 @@ impl Lexer {
         self.end(Kind::Node(label))
     }
 
+    /// What is kept is a full IRI.
     fn end_iri(&mut self) -> Result<(), Memory>
         ensures done { IfOk result (λ _. self.new ≡ end_iri self.old) }
         ensures beside { IsBeside self.old self.new }
@@ -155,6 +161,7 @@ impl Lexer {
         self.end(Kind::FullIri(iri))
     }
 
+    /// What is kept is a string.
     fn end_text(&mut self) -> Result<(), Memory>
         ensures done { IfOk result (λ _. self.new ≡ end_text self.old) }
         ensures beside { IsBeside self.old self.new }
@@ -163,6 +170,7 @@ impl Lexer {
         self.end(Kind::Quoted(text))
     }
 
+    /// What is kept is a language tag.
     fn end_tag(&mut self) -> Result<(), Memory>
         ensures done { IfOk result (λ _. self.new ≡ end_tag self.old) }
         ensures beside { IsBeside self.old self.new }
@@ -171,12 +179,14 @@ impl Lexer {
         self.end(Kind::Lang(tag))
     }
 
+    /// Whether a single `_` is kept, which a colon turns into an anonymous individual.
     fn has_underscore(&self) -> bool
         ensures { result ≡ is_underscore self.now.kept }
     {
         is_underscore(self.kept.as_slice())
     }
 
+    /// The `_:` of an anonymous individual has come.
     fn begin_node(&mut self)
         ensures { self.new ≡ begin_node self.old }
     {
@@ -339,6 +349,7 @@ impl Lexer {
         Ok(())
     }
 
+    /// Whether no byte of the unfinished token is kept.
     fn has_none_kept(&self) -> bool
         ensures { result ≡ is_empty self.now.kept }
     {
@@ -410,6 +421,7 @@ impl Lexer {
         self.take_between(byte)
     }
 
+    /// Takes a byte, by the mode.
     fn take(&mut self, byte: u8) -> Result<(), Memory>
         ensures done { IfOk result (λ _. self.new ≡ take_by self.old.mode byte self.old) }
         ensures beside { IsBeside self.old self.new }
@@ -493,6 +505,7 @@ impl Lexer {
         self.closed = true;
     }
 
+    /// A lexer that was fed nothing.
     pub(crate) fn empty(alloc: Global) -> Lexer
         ensures { result ≡ start }
     {
@@ -523,6 +536,7 @@ impl Lexer {
         self.place
     }
 
+    /// The answer of every call while the fault is this one.
     pub(crate) fn answer(&self) -> Result<(), LexFault>
         ensures { result ≡ answer_of self.now.fault }
     {
@@ -533,12 +547,14 @@ impl Lexer {
     }
 }
 
+/// Whether these bytes are a single `_`.
 fn is_underscore(bytes: &[u8]) -> bool
     ensures { result ≡ is_underscore bytes.now }
 {
     bytes.len() == 1 && bytes[0] == b'_'
 }
 
+/// Whether there are no bytes.
 fn is_empty(bytes: &[u8]) -> bool
     ensures { result ≡ is_empty bytes.now }
 {

@@ -1,10 +1,12 @@
 pub mod Answer
 pub mod Entailment
 pub mod Hierarchy
+pub mod Induction
 pub mod Iri
 pub mod Membership
 pub mod MembershipTable
 pub mod Nodes
+pub mod NormalAxioms
 pub mod Numbered
 pub mod Reading
 pub mod Text

@@ -12,7 +12,7 @@ use Rattle.cd_meaning.specs.declared.expression.Expr.TheFolds.{fold-roll-Expr, m
 use Rattle.cd_meaning.specs.declared.interpretation.Interpretation.{Interpretation}
 use Rattle.cd_meaning.specs.Membership.{class_has, leads, keeps, in_by_parts, member}
 
-list_any-map : {X Y : Type 0} (p : X → Bool) (f : Y → X) (ys : List Y) → list_any p (map f ys) ≡ list_any (λ y. p (f y)) ys
+pub list_any-map : {X Y : Type 0} (p : X → Bool) (f : Y → X) (ys : List Y) → list_any p (map f ys) ≡ list_any (λ y. p (f y)) ys
 list_any-map p f [] = refl
 list_any-map p f (y ∷ ys) = ap (λ b. p (f y) || b) (list_any-map p f ys)
 

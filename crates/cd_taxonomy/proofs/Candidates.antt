@@ -1,6 +1,6 @@
 -- The candidates are the groups above a class, and the classes that an answer lists those above its class.
 use Rattle.std.proofs.Common.{◌≡◌, ℕ, ◌<◌, ◌≤◌, Bool, true, false, not, ◌==◌, eqb, List, [], ◌∷◌, length, map, filter, get_or, slice_index, slice_index_or, refl, sym, ap, subst, ◌∙◌, arith, inl, inr}
-use Rattle.std.specs.List.{All, AllPairs, Any, Contains, IsDistinct, range_with_len}
+use Rattle.std.specs.List.{All, AllPairs, Contains, IsDistinct, range_with_len}
 use Rattle.std.specs.List.Sorted.{IsPermutation, IsSorted}
 use Rattle.std.specs.Ordering.{nat_cmp}
 use Rattle.std.proofs.lemmas.Bool.{false≢true, and_parts, and_from, both_ways, cases_lt, eqb-true, eqb-false, eq-eqb, ne_eqb, not-true, false_from_ne_true, not_from_false}
@@ -8,12 +8,10 @@ use Rattle.std.proofs.lemmas.Bool.Decides.{Decides-eqb}
 use Rattle.std.proofs.lemmas.Cmp.{nat_eq_equiv}
 use Rattle.std.proofs.lemmas.List.{get_or_past}
 use Rattle.std.proofs.lemmas.List.Elements.{All-contains, All-contains_itself, All-filter, All-map}
-use Rattle.std.proofs.lemmas.List.Folds.{Any-from_list_any}
 use Rattle.std.proofs.lemmas.List.Kept.{AllPairs-from_increasing, AllPairs-filter}
 use Rattle.std.proofs.lemmas.List.Sorted.{IsPermutation-map, All-permutation, Contains-permutation}
 use Rattle.std.proofs.lemmas.Map.Keys.{IsDistinct-IsPermutation}
 use Rattle.std.proofs.lemmas.Map.Made.{IsDistinct-from_AllPairs, AllPairs-from_IsDistinct}
-use Rattle.cd_base.specs.declared.atom.Atom.{Atom}
 use Rattle.cd_base.specs.declared.answer.Answer.{Answer}
 use Rattle.cd_base.specs.declared.answer.Answer.TheVariants.{Unsatisfiable, Of}
 use Rattle.cd_meaning.specs.Hierarchy.{is_strictly_below, has_between, representative, representatives, is_parent, parents}
@@ -23,7 +21,7 @@ use Rattle.cd_taxonomy.specs.Groups.{group_number}
 use Rattle.cd_taxonomy.specs.Relation.{is_below, relation, IsWithin, IsSubsumption}
 use Rattle.cd_taxonomy.specs.Steps.{superclasses, superclass_counts, representative_list, ArePlaces}
 use Rattle.cd_taxonomy.proofs.SuperclassCounts.{count, count_less, count_same, counted, length-counts as length_of_counts}
-use Rattle.cd_taxonomy.proofs.SuperclassLists.{superclasses_within, superclasses_increasing}
+use Rattle.cd_taxonomy.proofs.SuperclassLists.{superclasses_within, superclasses_increasing, contains_from_test}
 use Rattle.cd_taxonomy.proofs.Ranges.{range_contains}
 use Rattle.cd_taxonomy.proofs.RepresentativeByCount.{representative_at as representative_in_list, length-representative_list}
 use Rattle.cd_taxonomy.proofs.Lists.{Contains-filter, Contains-from_filter, passes_from_filter, AllPairs-map}
@@ -48,10 +46,7 @@ lists_from_below (Of atoms) b c h k = k
 
 lists_within : (n : ℕ) (answer : Answer) (b : ℕ) → IsWithin n answer → lists answer b ≡ true → b < n
 lists_within n Unsatisfiable b w h = absurd (false≢true h)
-lists_within n (Of atoms) b w h =
-    let found : Any (λ (atom : Atom). (atom.0 == b) ≡ true) atoms = Any-from_list_any (λ (atom : Atom). atom.0 == b) atoms h in
-    let small : found.1.0 < n = subst (λ (atom : Atom). atom.0 < n) found.3 (w found.0 found.1 found.2) in
-    omega (arith, small, eqb-true (found.1.0) b found.4)
+lists_within n (Of atoms) b w h = All-contains (λ c. c < n) atoms b w (contains_from_test atoms b h)
 
 module _ (n : ℕ) (above : List Answer) (long : length above ≡ n) (within : All (IsWithin n) above) (s : IsSubsumption n (relation above)) where
   covers_within : (a b : ℕ) → covers above a b ≡ true → (a < n) × (b < n)

@@ -1,11 +1,10 @@
 -- The representative of a class, from the numbers of superclasses and the places of the classes.
-use Rattle.std.proofs.Common.{◌≡◌, ◌≢◌, ℕ, zero, suc, ◌+◌, ◌<◌, ◌≤◌, Bool, true, false, cond, ◌==◌, List, [], ◌∷◌, ◌++◌, take, length, map, filter, slice_index, slice_index_or, sym, ap, subst, ◌∙◌, arith, inl, inr, length-take}
+use Rattle.std.proofs.Common.{◌≡◌, ◌≢◌, ℕ, zero, suc, ◌+◌, ◌<◌, ◌≤◌, Bool, true, false, cond, ◌==◌, List, [], ◌∷◌, ◌++◌, take, length, filter, slice_index, slice_index_or, sym, ap, subst, ◌∙◌, arith, inl, inr, length-take}
 use Rattle.std.specs.List.{All, Contains}
 use Rattle.std.proofs.lemmas.Bool.{cond-true, cond-false, and_from, and_parts, false_from_ne_true, eq-eqb, ne_eqb}
-use Rattle.std.proofs.lemmas.List.{get_or_default, get_or-map, length-map, append-nil}
-use Rattle.std.proofs.lemmas.List.Elements.{All-cons, All-same, All-contains, All-map, All-more, filter_more}
+use Rattle.std.proofs.lemmas.List.{get_or_default, append-nil}
+use Rattle.std.proofs.lemmas.List.Elements.{All-cons, All-same, All-contains, All-more, filter_more}
 use Rattle.std.proofs.lemmas.List.FromFn.{get_or-map-range_with_len, length-map-range_with_len}
-use Rattle.cd_base.specs.declared.atom.Atom.{Atom}
 use Rattle.cd_base.specs.declared.answer.Answer.{Answer}
 use Rattle.cd_base.specs.declared.answer.Answer.TheVariants.{Unsatisfiable, Of}
 use Rattle.cd_meaning.specs.declared.document.Document.{Document}
@@ -13,7 +12,7 @@ use Rattle.cd_meaning.specs.Hierarchy.{first_or, is_equivalent, group_of, repres
 use Rattle.cd_taxonomy.specs.Relation.{relation, is_below, IsSubsumption}
 use Rattle.cd_taxonomy.specs.Steps.{superclass_counts, representative_list, IsOrdering, ArePlaces}
 use Rattle.cd_taxonomy.proofs.SuperclassCounts.{count, count_same, below_from_count, counted}
-use Rattle.cd_taxonomy.proofs.SuperclassLists.{number, number_from_listed, listed_from_number}
+use Rattle.cd_taxonomy.proofs.SuperclassLists.{contains_from_test, test_from_contains}
 use Rattle.cd_taxonomy.proofs.Lists.{Contains-cases}
 use Rattle.cd_taxonomy.proofs.NameOrder.{classes_ordering, classes_within, classes_contain, length-classes_in_order}
 
@@ -80,33 +79,32 @@ module _ (names : List (List ℕ)) (above : List Answer) (counts : List ℕ) (tw
   representative_by_thing differ same = thing_stands names (relation above) c (other 1 two differ)
       (and_from (relation above c 0) (relation above 0 c) (s.thing c c_in) (back c 0 c_in (omega arith) (s.thing c c_in) same))
 
-  module _ (atoms : List Atom) (is : slice_index_or above c Unsatisfiable ≡ Of atoms) (within : All (λ (atom : Atom). atom.0 < length names) atoms) where
-    below_listed : (d : ℕ) → Contains (map number atoms) d → relation above c d ≡ true
-    below_listed d h = ap (λ (answer : Answer). is_below answer d) is ∙ listed_from_number atoms d h
+  module _ (atoms : List ℕ) (is : slice_index_or above c Unsatisfiable ≡ Of atoms) where
+    below_listed : (d : ℕ) → Contains atoms d → relation above c d ≡ true
+    below_listed d h = ap (λ (answer : Answer). is_below answer d) is ∙ test_from_contains atoms d h
 
-    listed_below : (d : ℕ) → relation above c d ≡ true → Contains (map number atoms) d
-    listed_below d h = number_from_listed atoms d (ap (λ (answer : Answer). is_below answer d) (sym is) ∙ h)
+    listed_below : (d : ℕ) → relation above c d ≡ true → Contains atoms d
+    listed_below d h = contains_from_test atoms d (ap (λ (answer : Answer). is_below answer d) (sym is) ∙ h)
 
   pub representative_by_place : (places : List ℕ) → ArePlaces (length names) (classes_in_order names) places
       → slice_index counts c ≢ slice_index counts 1 → slice_index counts c ≢ slice_index counts 0
-      → (atoms : List Atom) → slice_index_or above c Unsatisfiable ≡ Of atoms → All (λ (atom : Atom). atom.0 < length names) atoms
-      → (r : ℕ) → slice_index counts r ≡ slice_index counts c → Contains (c ∷ map (λ (atom : Atom). atom.0) atoms) r
-      → All (λ (atom : Atom). slice_index counts atom.0 ≡ slice_index counts c → slice_index places r ≤ slice_index places atom.0) atoms
+      → (atoms : List ℕ) → slice_index_or above c Unsatisfiable ≡ Of atoms → All (λ (atom : ℕ). atom < length names) atoms
+      → (r : ℕ) → slice_index counts r ≡ slice_index counts c → Contains (c ∷ atoms) r
+      → All (λ (atom : ℕ). slice_index counts atom ≡ slice_index counts c → slice_index places r ≤ slice_index places atom) atoms
       → representative names (relation above) c ≡ r
   representative_by_place places placed no1 no0 atoms is within r same listed first =
       let r_in : r < length names
-      = All-contains (λ d. d < length names) (c ∷ map number atoms) r
-      (All-cons (λ d. d < length names) c (map number atoms) c_in (All-map (λ d. d < length names) number atoms within)) listed in
+      = All-contains (λ d. d < length names) (c ∷ atoms) r
+      (All-cons (λ d. d < length names) c atoms c_in within) listed in
       let c_below : relation above c r ≡ true
-      = elim (Contains-cases c (map number atoms) r listed) [
+      = elim (Contains-cases c atoms r listed) [
         | inl here ↦ subst (λ (d : ℕ). relation above c d ≡ true) here (s.reflexive c c_in)
-        | inr later ↦ below_listed atoms is within r later
+        | inr later ↦ below_listed atoms is r later
       ] in
       let least : (d : ℕ) → d < length names → is_equivalent (relation above) c d ≡ true → slice_index places r ≤ slice_index places d
       = λ d d_in h.
-      All-contains (λ e. slice_index counts e ≡ slice_index counts c → slice_index places r ≤ slice_index places e) (map number atoms) d
-      (All-map (λ e. slice_index counts e ≡ slice_index counts c → slice_index places r ≤ slice_index places e) number atoms first)
-      (listed_below atoms is within d (and_parts (relation above c d) (relation above d c) h).0)
+      All-contains (λ e. slice_index counts e ≡ slice_index counts c → slice_index places r ≤ slice_index places e) atoms d first
+      (listed_below atoms is d (and_parts (relation above c d) (relation above d c) h).0)
       (sym (same_count c d c_in d_in h)) in
       first_stands names (relation above) c (other 1 two no1) (other 0 (omega arith) no0)
       ∙ first_by_place (is_equivalent (relation above) c) (length names) (classes_in_order names) places c r
@@ -115,20 +113,20 @@ module _ (names : List (List ℕ)) (above : List Answer) (counts : List ℕ) (tw
 
 -- ---- the least place so far
 
-module _ (counts places : List ℕ) (c : ℕ) (atoms : List Atom) where
+module _ (counts places : List ℕ) (c : ℕ) (atoms : List ℕ) where
   -- no atom with as many superclasses as c has a place before that of f
-  abbrev pub IsFirst : ℕ → List Atom → Type 0
-  IsFirst f = All (λ (atom : Atom). slice_index counts atom.0 ≡ slice_index counts c → slice_index places f ≤ slice_index places atom.0)
+  abbrev pub IsFirst : ℕ → List ℕ → Type 0
+  IsFirst f = All (λ (atom : ℕ). slice_index counts atom ≡ slice_index counts c → slice_index places f ≤ slice_index places atom)
 
-  pub first_more : (i f g : ℕ) (d : Atom) → i < length atoms → IsFirst f (take i atoms) → slice_index places g ≤ slice_index places f
-      → (slice_index counts ((slice_index_or atoms i d).0) ≡ slice_index counts c → slice_index places g ≤ slice_index places ((slice_index_or atoms i d).0))
-      → IsFirst g (take (i + 1) atoms)
-  first_more i f g d lt before less here =
-      All-more (λ (atom : Atom). slice_index counts atom.0 ≡ slice_index counts c → slice_index places g ≤ slice_index places atom.0) atoms i d lt
-      (λ k e short same. omega (arith, before k e short same)) here
+  pub first_more : (i f g a d : ℕ) → i < length atoms → a ≡ slice_index_or atoms i d → IsFirst f (take i atoms) → slice_index places g ≤ slice_index places f
+      → (slice_index counts a ≡ slice_index counts c → slice_index places g ≤ slice_index places a) → IsFirst g (take (i + 1) atoms)
+  first_more i f g a d lt is before less here =
+      All-more (λ (atom : ℕ). slice_index counts atom ≡ slice_index counts c → slice_index places g ≤ slice_index places atom) atoms i d lt
+      (λ k e short same. omega (arith, before k e short same))
+      (subst (λ (b : ℕ). slice_index counts b ≡ slice_index counts c → slice_index places g ≤ slice_index places b) is here)
 
-  pub listed_at : (i : ℕ) (d : Atom) → i < length atoms → Contains (c ∷ map (λ (atom : Atom). atom.0) atoms) ((slice_index_or atoms i d).0)
-  listed_at i d lt = (suc i, omega (arith, length-map atoms (λ (atom : Atom). atom.0)), get_or-map (λ (atom : Atom). atom.0) atoms i d ((slice_index_or atoms i d).0) lt)
+  pub listed_at : (i a d : ℕ) → i < length atoms → a ≡ slice_index_or atoms i d → Contains (c ∷ atoms) a
+  listed_at i a d lt is = (suc i, omega arith, get_or_default atoms i a d lt ∙ sym is)
 
 -- ---- those that are their own representatives
 

@@ -1,19 +1,18 @@
--- The superclasses that an answer gives, from the numbers of its atoms.
-use Rattle.std.proofs.Common.{◌≡◌, ℕ, ◌<◌, ◌≤◌, ◌==◌, true, List, length, map, subst, arith}
+-- The superclasses that an answer gives, from its atoms.
+use Rattle.std.proofs.Common.{◌≡◌, ℕ, ◌<◌, ◌≤◌, ◌==◌, true, List, length, refl, subst, arith}
 use Rattle.std.specs.List.{All, Any, Contains, list_any, range_with_len}
 use Rattle.std.specs.List.Sorted.{IsStrictlyIncreasing}
 use Rattle.std.proofs.lemmas.Bool.{eqb-true, eq-eqb}
-use Rattle.std.proofs.lemmas.List.Elements.{All-contains, All-filter, All-map}
+use Rattle.std.proofs.lemmas.List.Elements.{All-contains, All-filter}
 use Rattle.std.proofs.lemmas.List.Folds.{Any-from_list_any, list_any-from_Any}
 use Rattle.std.proofs.lemmas.List.FromFn.{length-range_with_len}
 use Rattle.std.proofs.lemmas.List.Kept.{IsStrictlyIncreasing-filter}
 use Rattle.std.proofs.lemmas.List.Sums.{length-filter, count_by-le-length}
-use Rattle.cd_base.specs.declared.atom.Atom.{Atom}
 use Rattle.cd_base.specs.declared.answer.Answer.{Answer}
 use Rattle.cd_base.specs.declared.answer.Answer.TheVariants.{Unsatisfiable, Of}
 use Rattle.cd_taxonomy.specs.Relation.{is_below}
 use Rattle.cd_taxonomy.specs.Steps.{superclasses}
-use Rattle.cd_taxonomy.proofs.Lists.{keeps_all, Contains-filter, passes_from_filter, Contains-map, Contains-from_map}
+use Rattle.cd_taxonomy.proofs.Lists.{keeps_all, Contains-filter, passes_from_filter}
 use Rattle.cd_taxonomy.proofs.Ranges.{range_contains, range_increasing, range_within}
 use Rattle.cd_taxonomy.proofs.RisingLists.{same_from_increasing}
 
@@ -33,28 +32,23 @@ superclasses_few n answer =
 pub superclasses_of_unsatisfiable : (n : ℕ) → superclasses n Unsatisfiable ≡ range_with_len 0 n
 superclasses_of_unsatisfiable n = keeps_all (range_with_len 0 n)
 
--- ---- the numbers of atoms
+-- ---- the atoms of an answer
 
-abbrev pub number : Atom → ℕ
-number atom = atom.0
+pub contains_from_test : (atoms : List ℕ) (b : ℕ) → list_any (λ (atom : ℕ). atom == b) atoms ≡ true → Contains atoms b
+contains_from_test atoms b h =
+    let found : Any (λ (atom : ℕ). (atom == b) ≡ true) atoms = Any-from_list_any (λ (atom : ℕ). atom == b) atoms h in
+    subst (Contains atoms) (eqb-true found.1 b found.4) (found.0, found.2, found.3)
 
-pub number_from_listed : (atoms : List Atom) (b : ℕ) → list_any (λ (atom : Atom). atom.0 == b) atoms ≡ true → Contains (map number atoms) b
-number_from_listed atoms b h =
-    let found : Any (λ (atom : Atom). (atom.0 == b) ≡ true) atoms = Any-from_list_any (λ (atom : Atom). atom.0 == b) atoms h in
-    subst (Contains (map number atoms)) (eqb-true (found.1.0) b found.4) (Contains-map number atoms found.1 (found.0, found.2, found.3))
+pub test_from_contains : (atoms : List ℕ) (b : ℕ) → Contains atoms b → list_any (λ (atom : ℕ). atom == b) atoms ≡ true
+test_from_contains atoms b (i, inside, at) = list_any-from_Any (λ (atom : ℕ). atom == b) atoms (i, b, inside, at, eq-eqb b b refl)
 
-pub listed_from_number : (atoms : List Atom) (b : ℕ) → Contains (map number atoms) b → list_any (λ (atom : Atom). atom.0 == b) atoms ≡ true
-listed_from_number atoms b at =
-    let from = Contains-from_map number atoms b at in
-    list_any-from_Any (λ (atom : Atom). atom.0 == b) atoms (from.1.0, from.0, from.1.1, from.1.2, eq-eqb (from.0.0) b from.2)
-
--- the numbers of an answer's atoms, ascending and each once, are the superclasses
-pub superclasses_from_increasing : (n : ℕ) (atoms : List Atom) (found : List ℕ) → All (λ (atom : Atom). atom.0 < n) atoms → IsStrictlyIncreasing found
-    → ((b : ℕ) → (Contains found b → Contains (map (λ (atom : Atom). atom.0) atoms) b) × (Contains (map (λ (atom : Atom). atom.0) atoms) b → Contains found b))
+-- the atoms of an answer, ascending and each once, are the superclasses
+pub superclasses_from_increasing : (n : ℕ) (atoms found : List ℕ) → All (λ (atom : ℕ). atom < n) atoms → IsStrictlyIncreasing found
+    → ((b : ℕ) → (Contains found b → Contains atoms b) × (Contains atoms b → Contains found b))
     → found ≡ superclasses n (Of atoms)
 superclasses_from_increasing n atoms found within rises same = same_from_increasing found (superclasses n (Of atoms)) rises (superclasses_increasing n (Of atoms))
     (λ b h.
     let listed = (same b).0 h in
-    let b_in : b < n = All-contains (λ c. c < n) (map number atoms) b (All-map (λ c. c < n) number atoms within) listed in
-    Contains-filter (is_below (Of atoms)) (range_with_len 0 n) b (range_contains n b b_in) (listed_from_number atoms b listed))
-    (λ b h. (same b).1 (number_from_listed atoms b (passes_from_filter (is_below (Of atoms)) (range_with_len 0 n) b h)))
+    let b_in : b < n = All-contains (λ c. c < n) atoms b within listed in
+    Contains-filter (is_below (Of atoms)) (range_with_len 0 n) b (range_contains n b b_in) (test_from_contains atoms b listed))
+    (λ b h. (same b).1 (contains_from_test atoms b (passes_from_filter (is_below (Of atoms)) (range_with_len 0 n) b h)))

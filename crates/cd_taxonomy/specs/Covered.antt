@@ -1,7 +1,6 @@
 -- How the direct superclasses are found: classes are gone through in order, and one that no earlier one covers is taken.
 use Rattle.std.specs.Prelude.{ℕ, Bool, not, false, ◌==◌, ◌&&◌, if◌then◌else◌, List, [], ◌∷◌, ◌++◌, slice_index, slice_index_or}
 use Rattle.std.specs.List.{list_any, fold}
-use Rattle.cd_base.specs.declared.atom.Atom.{Atom}
 use Rattle.cd_base.specs.declared.answer.Answer.{Answer}
 use Rattle.cd_base.specs.declared.answer.Answer.TheVariants.{Unsatisfiable, Of}
 use Rattle.cd_taxonomy.specs.declared.parents.Candidate.{Candidate}
@@ -19,7 +18,7 @@ class_of candidate = candidate.class
 -- whether an answer lists the class b: that of an unsatisfiable class lists none
 abbrev pub lists : Answer → ℕ → Bool
 lists Unsatisfiable b = false
-lists (Of atoms) b = list_any (λ (atom : Atom). atom.0 == b) atoms
+lists (Of atoms) b = list_any (λ (atom : ℕ). atom == b) atoms
 
 -- whether the answer of the class c lists the class b
 abbrev pub covers : List Answer → ℕ → ℕ → Bool

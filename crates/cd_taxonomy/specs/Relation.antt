@@ -1,14 +1,13 @@
 -- The relation between classes that a list of answers gives, one answer a class.
 use Rattle.std.specs.Prelude.{ℕ, ◌<◌, ◌==◌, Bool, true, IsTrue, List, All, slice_index_or}
 use Rattle.std.specs.List.{list_any}
-use Rattle.cd_base.specs.declared.atom.Atom.{Atom}
 use Rattle.cd_base.specs.declared.answer.Answer.{Answer}
 use Rattle.cd_base.specs.declared.answer.Answer.TheVariants.{Unsatisfiable, Of}
 
 -- an unsatisfiable class is below every class, another one below the classes of its answer
 abbrev pub is_below : Answer → ℕ → Bool
 is_below Unsatisfiable b = true
-is_below (Of atoms) b = list_any (λ (atom : Atom). atom.0 == b) atoms
+is_below (Of atoms) b = list_any (λ (atom : ℕ). atom == b) atoms
 
 -- whether a is below b
 abbrev pub relation : List Answer → ℕ → ℕ → Bool
@@ -17,7 +16,7 @@ relation above a b = is_below (slice_index_or above a Unsatisfiable) b
 -- every atom of the answer is below n
 abbrev pub IsWithin : ℕ → Answer → Type 0
 IsWithin n Unsatisfiable = Unit {0}
-IsWithin n (Of atoms) = All (λ (atom : Atom). atom.0 < n) atoms
+IsWithin n (Of atoms) = All (λ (atom : ℕ). atom < n) atoms
 
 -- reflexive and transitive on the numbers below n, with owl:Thing above all and owl:Nothing below all
 pub record IsSubsumption (n : ℕ) (below : ℕ → ℕ → Bool) : Type 0 where

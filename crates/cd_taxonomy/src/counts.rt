@@ -1,7 +1,6 @@
 //! How many classes are above each class. Of two classes, one below the other, the lower has more, unless they are equivalent.
-ghost use Rattle.std.specs.Prelude.{◌≡◌, ℕ, ◌<◌, ◌^◌, ◌↔◌, length, map, All, Contains, IfOk};
+ghost use Rattle.std.specs.Prelude.{◌≡◌, ℕ, ◌<◌, ◌^◌, ◌↔◌, length, All, Contains, IfOk};
 ghost use Rattle.std.specs.List.Sorted.{IsStrictlyIncreasing};
-ghost use Rattle.cd_base.specs.declared.atom.Atom.{Atom};
 ghost use Rattle.cd_taxonomy.specs.Relation.{IsWithin};
 ghost use Rattle.cd_taxonomy.specs.Steps.{superclasses, superclass_counts};
 
@@ -25,7 +24,7 @@ pub(crate) fn superclasses(alloc: Global, n: u32, answer: &Answer) -> Result<Vec
 /// The numbers of these atoms, ascending and each once. Linear where they are ascending, else `n log n`.
 fn numbers(alloc: Global, atoms: &[Atom]) -> Result<Vec<u32>, Memory>
     ensures ascending { IfOk result (λ found. IsStrictlyIncreasing found.items) }
-    ensures listed { IfOk result (λ found. (b : ℕ) → Contains found.items b ↔ Contains (map (λ (atom : Atom). atom.0) atoms.now) b) }
+    ensures listed { IfOk result (λ found. (b : ℕ) → Contains found.items b ↔ Contains atoms.now b) }
 {
     let mut found = listed_numbers(alloc, atoms)?;
     found.sort_unstable();
@@ -35,9 +34,9 @@ fn numbers(alloc: Global, atoms: &[Atom]) -> Result<Vec<u32>, Memory>
 
 /// The numbers of these atoms as they are listed. Linear.
 fn listed_numbers(alloc: Global, atoms: &[Atom]) -> Result<Vec<u32>, Memory>
-    ensures { IfOk result (λ found. found.items ≡ map (λ (atom : Atom). atom.0) atoms.now) }
+    ensures { IfOk result (λ found. found.items ≡ atoms.now) }
 {
-    let found = atoms.iter().map(|atom| atom.0).collect(alloc)?;
+    let found = atoms.iter().map(|atom| atom.number()).collect(alloc)?;
     Ok(found)
 }
 

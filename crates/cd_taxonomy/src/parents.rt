@@ -3,7 +3,6 @@ ghost use Rattle.std.specs.Prelude.{◌≡◌, ◌<◌, ◌≤◌, ℕ, ◌==◌
 ghost use Rattle.std.specs.HashSet.{contains};
 ghost use Rattle.std.specs.List.{list_any};
 ghost use Rattle.std.specs.List.Sorted.{IsPermutation};
-ghost use Rattle.cd_base.specs.declared.atom.Atom.{Atom};
 ghost use Rattle.cd_base.specs.declared.answer.Answer.TheVariants.{Unsatisfiable};
 ghost use Rattle.cd_meaning.specs.Hierarchy.{parents, representatives};
 ghost use Rattle.cd_taxonomy.specs.Covered.{is_candidate, with_count, class_of, lists, covers, uncovered};
@@ -122,10 +121,10 @@ fn cover(covered: &mut HashSet<u32>, answer: &Answer) -> Result<(), Memory>
 
 /// Adds the classes of the atoms. Linear.
 fn cover_each(covered: &mut HashSet<u32>, atoms: &[Atom]) -> Result<(), Memory>
-    ensures { OnOk result ((b : ℕ) → contains nat_eq covered.new b ≡ (contains nat_eq covered.old b || list_any (λ (atom : Atom). atom.0 == b) atoms.now)) }
+    ensures { OnOk result ((b : ℕ) → contains nat_eq covered.new b ≡ (contains nat_eq covered.old b || list_any (λ (atom : ℕ). atom == b) atoms.now)) }
 {
     for atom in atoms {
-        covered.insert(atom.0)?;
+        covered.insert(atom.number())?;
     }
     Ok(())
 }

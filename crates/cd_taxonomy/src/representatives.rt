@@ -1,6 +1,5 @@
 //! Which class stands for the group of each class.
-ghost use Rattle.std.specs.Prelude.{◌≡◌, ◌<◌, ◌≤◌, ◌∷◌, length, map, All, Contains, IfOk, slice_index};
-ghost use Rattle.cd_base.specs.declared.atom.Atom.{Atom};
+ghost use Rattle.std.specs.Prelude.{ℕ, ◌≡◌, ◌<◌, ◌≤◌, ◌∷◌, length, All, Contains, IfOk, slice_index};
 ghost use Rattle.cd_meaning.specs.Hierarchy.{classes_in_order, representative, representatives};
 ghost use Rattle.cd_taxonomy.specs.Relation.{relation, IsWithin, IsSubsumption};
 ghost use Rattle.cd_taxonomy.specs.Steps.{superclass_counts, representative_list, ArePlaces};
@@ -73,17 +72,18 @@ fn representative(
 /// Of `c` and of the atoms that have as many superclasses, the one with the least place. Linear in the atoms.
 fn first_with_count(atoms: &[Atom], counts: &[u32], places: &[u32], c: u32) -> u32
     requires class { c < length counts.now }
-    requires within { All (λ (atom : Atom). atom.0 < length counts.now) atoms.now }
+    requires within { All (λ (atom : ℕ). atom < length counts.now) atoms.now }
     requires placed { length places.now ≡ length counts.now }
     ensures counted { slice_index counts.now result ≡ slice_index counts.now c }
-    ensures listed { Contains (c ∷ map (λ (atom : Atom). atom.0) atoms.now) result }
-    ensures first { All (λ (atom : Atom). slice_index counts.now atom.0 ≡ slice_index counts.now c → slice_index places.now result ≤ slice_index places.now atom.0) atoms.now }
+    ensures listed { Contains (c ∷ atoms.now) result }
+    ensures first { All (λ (atom : ℕ). slice_index counts.now atom ≡ slice_index counts.now c → slice_index places.now result ≤ slice_index places.now atom) atoms.now }
 {
     let count = counts[c as usize];
     let mut first = c;
     for atom in atoms {
-        if counts[atom.0 as usize] == count && places[atom.0 as usize] < places[first as usize] {
-            first = atom.0;
+        let number = atom.number();
+        if counts[number as usize] == count && places[number as usize] < places[first as usize] {
+            first = number;
         }
     }
     first

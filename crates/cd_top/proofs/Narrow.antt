@@ -1,9 +1,8 @@
 -- Which documents have no axiom but subsumptions between named classes.
-use Rattle.std.proofs.Common.{◌≡◌, ℕ, Bool, true, false, List, [], ◌∷◌, Option, Some, None, refl, sym, ap, subst, ◌∙◌}
+use Rattle.std.proofs.Common.{◌≡◌, ℕ, Bool, true, List, [], ◌∷◌, Option, Some, None, refl, sym, ap, ◌∙◌}
 use Rattle.std.specs.Prelude.{is_some, ◌&&◌}
 use Rattle.std.specs.List.{list_all}
 use Rattle.std.proofs.lemmas.Bool.{and_parts}
-use Rattle.cd_meaning.specs.declared.document.Document.{Document}
 use Rattle.cd_meaning.specs.declared.expression.Axiom.{Axiom}
 use Rattle.cd_meaning.specs.declared.expression.Axiom.TheVariants.{SubClass}
 use Rattle.cd_meaning.specs.declared.expression.Expr.{Expr}
@@ -11,7 +10,7 @@ use Rattle.cd_meaning.specs.declared.expression.Expr.TheVariants.{Name, rolls-Na
 use Rattle.cd_meaning.specs.declared.expression.Expr.TheOpen.{Expr-F}
 use Rattle.cd_meaning.specs.declared.expression.Expr.TheViews.{out-Expr, roll-Expr, roll-out-Expr}
 use Rattle.cd_meaning.specs.declared.expression.Expr.TheFolds.{fold-roll-Expr, map-Expr}
-use Rattle.cd_top.specs.Walk.{sub_classes, IsNarrow}
+use Rattle.cd_top.specs.Walk.{sub_classes}
 use Rattle.cd_top.specs.WalkSteps.{class_by_parts, named_class, both, named_pair}
 
 abbrev is_named : Axiom → Bool

@@ -1,62 +1,40 @@
 -- Answers that have what walks reach are the answers to the document.
-use Rattle.std.proofs.Common.{◌≡◌, ℕ, zero, suc, ◌+◌, ◌<◌, ◌↔◌, Bool, true, false, ◌==◌, ◌||◌, IsTrue, List, [], ◌∷◌, ◌++◌, map, length, refl, sym, ap, subst, inl, inr, arith}
-use Rattle.std.specs.List.{list_any, All, Contains}
+use Rattle.std.proofs.Common.{◌≡◌, ℕ, ◌+◌, ◌<◌, ◌↔◌, IsTrue, List, [], ◌∷◌, ◌++◌, length, refl, sym, subst, inl, inr, arith}
+use Rattle.std.specs.List.{All, Contains}
 use Rattle.std.specs.List.Sorted.{IsPermutation}
-use Rattle.std.proofs.lemmas.Bool.{false≢true, cases_lt, or_cases, eqb-true, eq-eqb}
+use Rattle.std.proofs.lemmas.Bool.{cases_lt}
 use Rattle.std.proofs.lemmas.List.{get_or_append_left, get_or_push}
-use Rattle.std.proofs.lemmas.List.Elements.{Contains-append_right}
-use Rattle.std.proofs.lemmas.List.Sorted.{All-permutation, Contains-permutation, IsPermutation-sym}
-use Rattle.cd_base.specs.declared.atom.Atom.{Atom}
+use Rattle.std.proofs.lemmas.List.Sorted.{Contains-permutation, IsPermutation-sym}
 use Rattle.cd_base.specs.declared.answer.Answer.{Answer}
 use Rattle.cd_base.specs.declared.answer.Answer.TheVariants.{Unsatisfiable, Of}
 use Rattle.cd_meaning.specs.declared.document.Document.{Document}
 use Rattle.cd_meaning.specs.declared.expression.Axiom.{Axiom}
 use Rattle.cd_meaning.specs.Entailment.{Entails}
 use Rattle.cd_taxonomy.specs.Relation.{is_below, relation, IsWithin, IsSubsumption}
+use Rattle.cd_taxonomy.proofs.SuperclassLists.{contains_from_test, test_from_contains}
 use Rattle.cd_top.specs.Walk.{IsReached, IsWalkedBelow, IsNarrow, AreAnswers}
 use Rattle.cd_top.specs.WalkSteps.{named_pairs}
-use Rattle.cd_top.proofs.WalkEntailment.{all_mapped, walked_on, walks_are_entailment}
+use Rattle.cd_top.proofs.WalkEntailment.{walked_on, walks_are_entailment}
 use Rattle.cd_top.proofs.WalkDocument.{pairs_within, two_classes, axioms_are}
 
 -- ---- one answer
 
-abbrev classes_of : List Atom → List ℕ
-classes_of atoms = map (λ (atom : Atom). atom.0) atoms
-
-atom_there : (atoms : List Atom) (b : ℕ) → list_any (λ (atom : Atom). atom.0 == b) atoms ≡ true → Contains (classes_of atoms) b
-atom_there [] b h = absurd (false≢true h)
-atom_there (atom ∷ atoms) b h =
-    elim (or_cases (atom.0 == b) (list_any (λ (x : Atom). x.0 == b) atoms) h) [
-      | inl here ↦ (0, omega arith, eqb-true atom.0 b here)
-      | inr later ↦ Contains-append_right (atom.0 ∷ []) (classes_of atoms) b (atom_there atoms b later)
-    ]
-
-atom_found : (atoms : List Atom) (b : ℕ) → Contains (classes_of atoms) b → list_any (λ (atom : Atom). atom.0 == b) atoms ≡ true
-atom_found [] b h = absurd (omega (arith, h.1))
-atom_found (atom ∷ atoms) b (zero, lt, is) = ap (λ (t : Bool). t || list_any (λ (x : Atom). x.0 == b) atoms) (eq-eqb atom.0 b is)
-atom_found (atom ∷ atoms) b (suc k, lt, is) =
-    elim (atom.0 == b) as (λ t. (t || list_any (λ (x : Atom). x.0 == b) atoms) ≡ true) [ true ↦ refl | false ↦ atom_found atoms b (k, omega arith, is) ]
-
 -- the same of lists that are equal
-pub moved : (ks xs : List ℕ) (atoms given : List Atom) → xs ≡ ks → atoms ≡ given → IsPermutation xs (classes_of given) → IsPermutation ks (classes_of atoms)
-moved ks xs atoms given is are same =
-    subst (λ (l : List ℕ). IsPermutation l (classes_of atoms)) is (subst (λ (l : List Atom). IsPermutation xs (classes_of l)) (sym are) same)
+pub moved : (ks xs atoms given : List ℕ) → xs ≡ ks → atoms ≡ given → IsPermutation xs given → IsPermutation ks atoms
+moved ks xs atoms given is are same = subst (λ (l : List ℕ). IsPermutation l atoms) is (subst (IsPermutation xs) (sym are) same)
 
-module _ (pairs : List (ℕ × ℕ)) (n start : ℕ) (ks : List ℕ) (reached : (b : ℕ) → Contains ks b ↔ IsReached pairs start b) where
+module _ (pairs : List (ℕ × ℕ)) (start : ℕ) (ks : List ℕ) (reached : (b : ℕ) → Contains ks b ↔ IsReached pairs start b) where
   pub unsatisfiable : Contains ks 1 → (b : ℕ) → IsTrue (is_below Unsatisfiable b) ↔ IsWalkedBelow pairs start b
   unsatisfiable at b = (λ h. inr ((reached 1).0 at), λ w. refl)
 
-  pub of_reached : (Contains ks 1 → ⊥) → (atoms : List Atom) → IsPermutation ks (classes_of atoms) → (b : ℕ) → IsTrue (is_below (Of atoms) b) ↔ IsWalkedBelow pairs start b
+  pub of_reached : (Contains ks 1 → ⊥) → (atoms : List ℕ) → IsPermutation ks atoms → (b : ℕ) → IsTrue (is_below (Of atoms) b) ↔ IsWalkedBelow pairs start b
   of_reached not_at atoms same b = (
-    λ h. inl ((reached b).0 (Contains-permutation (classes_of atoms) ks b (IsPermutation-sym ks (classes_of atoms) same) (atom_there atoms b h))),
+    λ h. inl ((reached b).0 (Contains-permutation atoms ks b (IsPermutation-sym ks atoms same) (contains_from_test atoms b h))),
     λ w. elim w [
-      | inl to_b ↦ atom_found atoms b (Contains-permutation ks (classes_of atoms) b same ((reached b).1 to_b))
+      | inl to_b ↦ test_from_contains atoms b (Contains-permutation ks atoms b same ((reached b).1 to_b))
       | inr to_nothing ↦ absurd (not_at ((reached 1).1 to_nothing))
     ],
   )
-
-  pub all_within : All (λ k. k < n) ks → (atoms : List Atom) → IsPermutation ks (classes_of atoms) → IsWithin n (Of atoms)
-  all_within all atoms same = all_mapped (λ (k : ℕ). k < n) (λ (atom : Atom). atom.0) atoms (All-permutation (λ k. k < n) ks (classes_of atoms) same all)
 
 -- ---- all answers
 

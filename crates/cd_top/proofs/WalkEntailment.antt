@@ -17,7 +17,7 @@ use Rattle.cd_meaning.specs.Truth.{Holds, IsBelow}
 use Rattle.cd_meaning.specs.Entailment.{IsModel, Entails}
 use Rattle.cd_top.specs.Walk.{sub_classes, IsStep, IsWalk, IsReached, IsWalkedBelow, AreWithin, WalksAreEntailment}
 
-pub all_mapped : {X Y : Type 0} (P : Y → Type 0) (f : X → Y) (xs : List X) → All P (map f xs) → All (λ x. P (f x)) xs
+all_mapped : {X Y : Type 0} (P : Y → Type 0) (f : X → Y) (xs : List X) → All P (map f xs) → All (λ x. P (f x)) xs
 all_mapped P f xs all = λ k d lt. subst P (get_or-map f xs k d (f d) lt) (all k (f d) (omega (arith, length-map xs f, lt)))
 
 -- ---- walks, one after another

@@ -3,7 +3,9 @@ use crate::walk::{answers, is_narrow};
 use crate::{Status, classify_here, run};
 use cd_base::Limits;
 use cd_grammar::read_document;
+use cd_index::{Closure, Index};
 use cd_io::{MemSink, MemSource, Source};
+use cd_normal::normalise;
 use cd_taxonomy::{taxonomy, text};
 use std::alloc::Global;
 use std::test::Fail;
@@ -303,5 +305,87 @@ fn the_groups_stand_in_the_order_of_their_names(rt: HostRuntime) -> Result<(), F
     }
     let bytes = text(alloc, &document, &found)?;
     assert_eq!(rt; bytes.as_slice(), ITS_TEXT.as_bytes());
+    Ok(())
+}
+
+/// The normal axioms of a text, indexed.
+fn index_of(alloc: Global, text: Vec<u8>) -> Result<Index, Fail> {
+    let mut source = MemSource::new(text, 65_536, Vec::new(alloc));
+    let document = read_document(alloc, &mut source, &Limits::standard())?;
+    let normal = normalise(alloc, &document)?;
+    let closure = Closure::of(alloc, normal.roles, normal.n5.items())?;
+    let index = Index::of(alloc, normal, closure)?;
+    Ok(index)
+}
+
+#[test]
+fn documents_of_every_kind_have_normal_axioms(rt: HostRuntime) -> Result<(), Fail> {
+    for (text, named, roles) in [
+        ("Ontology(SubClassOf(<x:A> <x:B>))", 4usize, 0u32),
+        (
+            "Ontology(SubClassOf(<x:A> ObjectSomeValuesFrom(<x:R> <x:B>)) SubClassOf(<x:A> ObjectAllValuesFrom(<x:S> <x:C>)) SubObjectPropertyOf(<x:R> <x:S>) DisjointClasses(<x:B> <x:C>))",
+            5,
+            2,
+        ),
+        (
+            "Ontology(SubClassOf(ObjectComplementOf(ObjectSomeValuesFrom(<x:R> owl:Thing)) <x:B>) SubClassOf(<x:A> ObjectAllValuesFrom(<x:R> owl:Nothing)))",
+            4,
+            1,
+        ),
+        (
+            "Ontology(SubClassOf(ObjectAllValuesFrom(<x:R> <x:A>) <x:B>) SubClassOf(owl:Thing ObjectAllValuesFrom(<x:R> <x:A>)))",
+            4,
+            1,
+        ),
+        (
+            "Ontology(DisjointUnion(<x:A> <x:B> <x:C>) SubClassOf(<x:D> <x:A>) SubClassOf(<x:D> ObjectComplementOf(<x:B>)))",
+            6,
+            0,
+        ),
+    ] {
+        let index = index_of(rt.alloc(), text.as_bytes().to_vec(rt.alloc())?)?;
+        let normal = index.normal();
+        let flags = normal.named.items();
+        assert_eq!(rt; flags.iter().filter(|flag| **flag).count(), named, "{text}");
+        assert_eq!(rt; normal.roles, roles, "{text}");
+    }
+    Ok(())
+}
+
+/// 20,000 axioms of all kinds, a disjointness of 20,000 classes, and 20,000 roles without a pair.
+fn large_text(alloc: Global) -> Result<Vec<u8>, Fail> {
+    let mut text = b"Prefix(:=<x:>)Ontology(".to_vec(alloc)?;
+    for i in 0u32..2_500 {
+        let axioms = format!(in alloc;
+            "SubClassOf(:A{i} ObjectSomeValuesFrom(:r ObjectUnionOf(:B{i} ObjectComplementOf(:C{i}))))EquivalentClasses(:D{i} ObjectAllValuesFrom(:s :A{i}))DisjointClasses(:A{i} :B{i} :C{i})DisjointUnion(:E{i} :A{i} :B{i})SubObjectPropertyOf(:p{i} :q)EquivalentObjectProperties(:p{i} :t{i})ObjectPropertyDomain(:p{i} :A{i})ObjectPropertyRange(:p{i} :B{i})"
+        )?;
+        text.extend_from_slice(axioms.as_bytes())?;
+    }
+    text.extend_from_slice(b"DisjointClasses(")?;
+    for i in 0u32..20_000 {
+        let class = format!(in alloc; " :F{i}")?;
+        text.extend_from_slice(class.as_bytes())?;
+    }
+    text.push(b')')?;
+    for i in 0u32..20_000 {
+        let axiom = format!(in alloc; "ObjectPropertyDomain(:u{i} :A0)")?;
+        text.extend_from_slice(axiom.as_bytes())?;
+    }
+    text.push(b')')?;
+    Ok(text)
+}
+
+#[test]
+fn a_large_document_is_normalised_and_indexed(rt: HostRuntime) -> Result<(), Fail> {
+    let index = index_of(rt.alloc(), large_text(rt.alloc())?)?;
+    let normal = index.normal();
+    // owl:Thing and owl:Nothing, five classes for each number, and those of the large disjointness.
+    assert_eq!(rt;
+        normal.named.items().iter().filter(|flag| **flag).count(),
+        32_502
+    );
+    assert_eq!(rt; normal.roles, 25_003);
+    assert_eq!(rt; normal.n5.items().len(), 7_500);
+    assert_eq!(rt; index.free().len(), 2_501);
     Ok(())
 }

@@ -97,8 +97,8 @@ fn insert_all(reached: &mut IndexSet<u32>, classes: &[u32]) -> Result<(), Memory
 
 /// The classes as atoms, ascending. `n log n` in them.
 fn ascending(alloc: Global, classes: &[u32]) -> Result<Vec<Atom>, Memory>
-    ensures sorted { IfOk result (λ found. IsSorted nat_cmp (map (λ atom. atom.0) found.items)) }
-    ensures same { IfOk result (λ found. IsPermutation classes.now (map (λ atom. atom.0) found.items)) }
+    ensures sorted { IfOk result (λ found. IsSorted nat_cmp found.items) }
+    ensures same { IfOk result (λ found. IsPermutation classes.now found.items) }
 {
     let mut sorted = classes.to_vec(alloc)?;
     sorted.sort()?;
@@ -107,7 +107,7 @@ fn ascending(alloc: Global, classes: &[u32]) -> Result<Vec<Atom>, Memory>
 
 /// The classes as atoms, in their order. Linear in them.
 fn atoms(alloc: Global, classes: &[u32]) -> Result<Vec<Atom>, Memory>
-    ensures { IfOk result (λ found. map (λ atom. atom.0) found.items ≡ classes.now) }
+    ensures { IfOk result (λ found. found.items ≡ classes.now) }
 {
     let mut found = Vec::new(alloc);
     for class in classes {

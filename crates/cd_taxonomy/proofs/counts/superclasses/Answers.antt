@@ -1,7 +1,6 @@
-use Rattle.std.proofs.Common.{◌≡◌, ◌<◌, Ok, Err, Result}
+use Rattle.std.proofs.Common.{ℕ, ◌≡◌, ◌<◌, Ok, Err, Result}
 use Rattle.std.specs.List.{All}
 use Rattle.std.specs.Result.{IfOk}
-use Rattle.cd_base.specs.declared.atom.Atom.{Atom}
 use Rattle.cd_base.specs.declared.answer.Answer.TheVariants.{Of}
 use Rattle.cd_taxonomy.specs.Steps.{superclasses}
 use Rattle.cd_taxonomy.proofs.SuperclassLists.{superclasses_from_increasing, superclasses_of_unsatisfiable}
@@ -17,7 +16,7 @@ returns-in-Unsatisfiable c = rw (c.in-Unsatisfiable.is, superclasses_of_unsatisf
 pub returns-in-Of : goal.returns-in-Of
 returns-in-Of c =
     let atoms = c.in-Of.atoms in
-    let within : All (λ (atom : Atom). atom.0 < c.args.n) atoms = rw c.in-Of.is at c.requires in
+    let within : All (λ (atom : ℕ). atom < c.args.n) atoms = rw c.in-Of.is at c.requires in
     rw c.in-Of.is (both_ok _ _ (λ found. found.items ≡ superclasses c.args.n (Of atoms)) c.numbers.result
     (λ found rises same. superclasses_from_increasing c.args.n atoms found.items within rises (rw c.items.ensures at same))
     c.numbers.ensures.ascending c.numbers.ensures.listed)

@@ -1,8 +1,8 @@
-use Rattle.std.proofs.Common.{arith}
+use Rattle.std.proofs.Common.{◌≡◌, slice_index_or, ◌∙◌, arith}
 use Rattle.std.proofs.lemmas.List.{take_all}
 use Rattle.cd_taxonomy.proofs.RepresentativeByCount.{first_more, listed_at}
 use Rattle.cd_taxonomy.proofs.representatives.first_with_count.Goals as goal
-use Rattle.cd_taxonomy.proofs.representatives.first_with_count.Goals.{then-counts-atom+then-places-atom, else-counts-atom, else-counts-atom-via-then-counts-atom+else-places-atom, else-counts-atom-via-else-counts-atom}
+use Rattle.cd_taxonomy.proofs.representatives.first_with_count.Goals.{then-counts-number+then-places-number, else-counts-number, else-counts-number-via-then-counts-number+else-places-number, else-counts-number-via-else-counts-number}
 
 pub loop-atom-preserved : goal.loop-atom-preserved
 loop-atom-preserved c =
@@ -10,22 +10,25 @@ loop-atom-preserved c =
     let places = c.args.places.now in
     let atoms = c.args.atoms.now in
     let i = c.loop-atom.atom-index in
-    let more = first_more counts places c.args.c atoms i c.loop-atom.first in
+    let a = c.number-number.result in
+    let d = c.atom-item.result in
     let lt = c.loop-atom-test.true in
-    elim c.if-counts-atom.branch [
-      | then-counts-atom+then-places-atom w ↦ rw w.first-is (record {
-        class = omega (arith, c.requires.within i (record { 0 = 0 }) lt);
-        counted = w.if-counts-atom.true;
-        listed = listed_at counts places c.args.c atoms i _ lt;
-        first = more _ (record { 0 = 0 }) lt c.loop-atom.invariant.first (omega arith) (λ _. omega arith);
+    let is : a ≡ slice_index_or atoms i d = c.number-number.ensures ∙ c.atom-item.is in
+    let more = first_more counts places c.args.c atoms i c.loop-atom.first in
+    elim c.if-counts-number.branch [
+      | then-counts-number+then-places-number w ↦ rw w.first-is (record {
+        class = omega (arith, c.requires.within i d lt, is);
+        counted = w.if-counts-number.true;
+        listed = listed_at counts places c.args.c atoms i a d lt is;
+        first = more _ a d lt is c.loop-atom.invariant.first (omega arith) (λ _. omega arith);
       })
-      | else-counts-atom w ↦ rw w.first-is (record {
+      | else-counts-number w ↦ rw w.first-is (record {
         class = c.loop-atom.invariant.class;
         counted = c.loop-atom.invariant.counted;
         listed = c.loop-atom.invariant.listed;
-        first = more _ (record { 0 = 0 }) lt c.loop-atom.invariant.first (omega arith) (elim w.else-counts-atom.branch [
-          | else-counts-atom-via-then-counts-atom+else-places-atom w' ↦ λ _. omega arith
-          | else-counts-atom-via-else-counts-atom w' ↦ λ same. absurd (w'.if-counts-atom.false same)
+        first = more _ a d lt is c.loop-atom.invariant.first (omega arith) (elim w.else-counts-number.branch [
+          | else-counts-number-via-then-counts-number+else-places-number w' ↦ λ _. omega arith
+          | else-counts-number-via-else-counts-number w' ↦ λ same. absurd (w'.if-counts-number.false same)
         ]);
       })
     ]

@@ -2,7 +2,6 @@ use Rattle.std.proofs.Common.{List, ℕ, ◌∙◌, ap, sym, subst}
 use Rattle.std.specs.Prelude.{◌++◌, [], ◌∷◌, codes, OnOk}
 use Rattle.std.specs.Io.KnownBytes.{Appends}
 use Rattle.cd_io.specs.Streams.{AppendsFront}
-use Rattle.cd_grammar.specs.declared.refusal.Refusal.{Refusal}
 use Rattle.cd_top.specs.Status.{numbered, refusal_line}
 use Rattle.cd_top.proofs.notes.put_refusal.Goals as goal
 

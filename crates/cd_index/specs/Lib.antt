@@ -1,0 +1,4 @@
+pub mod Closure
+pub mod Index
+pub mod Lists
+pub mod Walk

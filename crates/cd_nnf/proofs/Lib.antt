@@ -1,0 +1,5 @@
+pub mod ListTests
+pub mod Members
+pub mod Complements
+pub mod Shapes
+pub mod Parts

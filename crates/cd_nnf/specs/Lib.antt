@@ -1,0 +1,2 @@
+pub mod Nnf
+pub mod NnfTable

@@ -1,0 +1,5 @@
+pub mod Codes
+pub mod Made
+pub mod Method
+pub mod Operands
+pub mod Uses
