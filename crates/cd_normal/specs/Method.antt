@@ -20,6 +20,7 @@ circle_from link x [] ys start = link x start ∷ []
 circle_from link x (z ∷ xs) [] start = link x start ∷ []
 circle_from link x (z ∷ xs) (y ∷ ys) start = link x y ∷ circle_from link z xs ys start
 
+-- the same from the first of each on; nothing of none
 abbrev pub circle : {A : Type 0} → (ℕ → ℕ → A) → List ℕ → List ℕ → List A
 circle link [] ys = []
 circle link (x ∷ xs) [] = []
@@ -39,6 +40,7 @@ module _ (classes : ℕ) (Fresh : ℕ → Label → Type 0) where
   Chain k before p (e ∷ f ∷ es) (x ∷ xs) axs = (q : ℕ) × (more : List NormalAxiom) × Fresh q (chain_of k (e ∷ before)) × Chain k (e ∷ before) q (f ∷ es) xs more
       × (axs ≡ implies (x ∷ []) (q ∷ []) ∷ implies (p ∷ []) (q ∷ []) ∷ implies (x ∷ p ∷ []) [] ∷ more)
 
+  -- no two of the operands, whose neg atoms these are, have a common element: one axiom for two, a chain of unions for more
   abbrev pub Apart : ℕ → List Expr → List ℕ → List NormalAxiom → Type 0
   Apart k [] xs axs = axs ≡ []
   Apart k (e ∷ []) xs axs = axs ≡ []
@@ -52,6 +54,7 @@ module _ (classes : ℕ) (Fresh : ℕ → Label → Type 0) where
   UsesApart k (e ∷ []) axs = axs ≡ []
   UsesApart k (e ∷ f ∷ es) axs = (xs : List ℕ) × (a b : List NormalAxiom) × UsesEach classes Fresh false (map nnf (e ∷ f ∷ es)) xs a × Apart k (e ∷ f ∷ es) xs b × (axs ≡ b ++ a)
 
+  -- operands that equal an earlier one are left out
   abbrev pub GivesApart : ℕ → List Expr → List NormalAxiom → Type 0
   GivesApart k l axs = (kept : List Expr) × Kept [] l kept × UsesApart k kept axs
 
@@ -68,14 +71,16 @@ module _ (classes : ℕ) (Fresh : ℕ → Label → Type 0) where
   Gives k (Domain r c) axs = (x : ℕ) × (a : List NormalAxiom) × Uses classes Fresh true (nnf c) x a × (axs ≡ n3 (triple 0 r x) ∷ a)
   Gives k (Range r c) axs = (x : ℕ) × (a : List NormalAxiom) × Uses classes Fresh true (nnf c) x a × (axs ≡ n4 (triple 0 r x) ∷ a)
 
+  -- what the axioms give, of which the first has the number k
   abbrev pub GivesFrom : ℕ → List Axiom → List NormalAxiom → Type 0
   GivesFrom k [] axs = axs ≡ []
   GivesFrom k (s ∷ more) axs = (a b : List NormalAxiom) × Gives k s a × GivesFrom (suc k) more b × (axs ≡ a ++ b)
 
 -- the fresh atoms follow the classes, one for each of the list
 abbrev pub IsFresh : ℕ → List Label → ℕ → Label → Type 0
-IsFresh classes labels a kind = (n : ℕ) × (a ≡ classes + n) × (n < length labels) × ((k : Label) → get_or labels n k ≡ kind)
+IsFresh classes labels a label = (n : ℕ) × (a ≡ classes + n) × (n < length labels) × ((k : Label) → get_or labels n k ≡ label)
 
+-- the atom stands in the normal axiom
 abbrev pub Mentions : ℕ → NormalAxiom → Type 0
 Mentions a (n1 c) = Member a c.left ⊎ Member a c.right
 Mentions a (n2 t) = (a ≡ t.atom) ⊎ (a ≡ t.other)
@@ -92,13 +97,18 @@ pub record IsByMethod (document : Document) (n : Normal) : Type 0 where
   -- the first atoms are the named ones
   pub named : n.named ≡ map (λ c. true) document.classes ++ map (λ k. false) labels
   pub roles : n.roles ≡ length document.roles
+  -- each of them at least once, and that all is in owl:Thing and nothing in owl:Nothing
   pub have : (a : NormalAxiom) → HasNormal n a ↔ Member a (implies [] (0 ∷ []) ∷ implies (1 ∷ []) [] ∷ axs)
+  -- each fresh atom stands in one
   pub no_other : (a : ℕ) → length document.classes ≤ a → a < n.atoms → (x : NormalAxiom) × HasNormal n x × Mentions a x
+  -- an atom of a universal has one second atom
   pub one_rest : (a b x : ℕ) (e : Expr) → IsFresh (length document.classes) labels a (rest_of x e) → IsFresh (length document.classes) labels b (rest_of x e) → a ≡ b
 
+-- an interpretation in which the normal axioms hold is one of the document, and its first atoms are the classes
 abbrev pub Restricts : Type 0
 Restricts = (document : Document) (n : Normal) (i : Interpretation) → IsByMethod document n → IsNormalModel n i → All (Holds i) document.axioms × ((c x : ℕ) → c < length document.classes → x < i.size → in_atom i c x ≡ class_has i c x)
 
+-- an interpretation in which the normal axioms hold, with the elements, the roles and the members of the classes of i
 pub record Extension (document : Document) (n : Normal) (i : Interpretation) : Type 0 where
   pub made : Interpretation
   pub size : made.size ≡ i.size
@@ -106,5 +116,6 @@ pub record Extension (document : Document) (n : Normal) (i : Interpretation) : T
   pub classes : (c x : ℕ) → c < length document.classes → x < i.size → in_atom made c x ≡ class_has i c x
   pub model : IsNormalModel n made
 
+-- every interpretation of the document has one
 abbrev pub Extends : Type 0
 Extends = (document : Document) (n : Normal) (i : Interpretation) → IsByMethod document n → All (Holds i) document.axioms → Extension document n i

@@ -42,6 +42,7 @@ pub(crate) fn stated_gives(
     }
 }
 
+/// `SubClassOf`: the neg atom of the lower class implies the pos atom of the higher one.
 fn sub_class(
     maker: &mut Maker,
     alloc: Global,
@@ -60,6 +61,7 @@ fn sub_class(
     Ok(())
 }
 
+/// `EquivalentClasses`: each operand is below the next, and the last below the first.
 fn same_classes(
     maker: &mut Maker,
     alloc: Global,
@@ -99,6 +101,7 @@ fn disjoint_union(
     Ok(())
 }
 
+/// `SubObjectPropertyOf`: one pair of roles.
 fn sub_role(maker: &mut Maker, classes: u32, lower: u32, higher: u32) -> Result<(), Memory>
     ensures given { IfOk result (λ done. IsGivenBy classes maker.old maker.new (SubRole lower higher)) }
     ensures grown { IfOk result (λ done. IsGrownOnce maker.old maker.new (SubRole lower higher)) }
@@ -107,6 +110,7 @@ fn sub_role(maker: &mut Maker, classes: u32, lower: u32, higher: u32) -> Result<
     Ok(())
 }
 
+/// `EquivalentObjectProperties`: each role is under the next, and the last under the first.
 fn same_roles(maker: &mut Maker, classes: u32, roles: &[u32]) -> Result<(), Memory>
     ensures given { IfOk result (λ done. IsGivenBy classes maker.old maker.new (SameRoles roles.now)) }
     ensures grown { IfOk result (λ done. IsGrownOnce maker.old maker.new (SameRoles roles.now)) }
@@ -115,6 +119,7 @@ fn same_roles(maker: &mut Maker, classes: u32, roles: &[u32]) -> Result<(), Memo
     Ok(())
 }
 
+/// `ObjectPropertyDomain`: every element with an edge to any element is in the pos atom.
 fn domain(
     maker: &mut Maker,
     alloc: Global,
@@ -132,6 +137,7 @@ fn domain(
     Ok(())
 }
 
+/// `ObjectPropertyRange`: every edge from any element goes to the pos atom.
 fn range(
     maker: &mut Maker,
     alloc: Global,

@@ -74,6 +74,7 @@ fn flags(alloc: Global, classes: u32, fresh: u32) -> Result<Vec<bool>, Memory>
     Ok(made)
 }
 
+/// The flag so many times more. Linear in the number.
 fn more_flags(made: &mut Vec<bool>, flag: bool, number: u32) -> Result<(), Memory>
     ensures { IfOk result (λ done. made.new.items ≡ made.old.items ++ replicate number flag) }
 {
@@ -83,6 +84,7 @@ fn more_flags(made: &mut Vec<bool>, flag: bool, number: u32) -> Result<(), Memor
     Ok(())
 }
 
+/// The normal axioms that were made, with their numbers in range. Constant time.
 fn packed(maker: Maker, named: Vec<bool>, roles: u32) -> Normal
     requires flags { length named.items ≡ maker.next }
     requires n1_within { IsTrue (list_all (has_atoms_below maker.next) maker.n1.items) }

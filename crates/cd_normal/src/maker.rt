@@ -1,3 +1,4 @@
+//! What is made so far.
 use cd_base::{Conj, RolePair, Triple};
 
 /// Normal axioms in the making: the number of the next fresh atom, and the axioms so far.

@@ -1,3 +1,4 @@
+//! One row of the method's table each: a fresh atom for an expression whose parts have atoms, and the axioms that say so.
 ghost use Rattle.std.specs.Prelude.{◌≡◌, ◌∷◌, [], ◌+◌, ◌^◌, ◌≤◌, ◌<◌, length, IfOk};
 ghost use Rattle.cd_meaning.specs.NormalAxioms.{implies, triple, n2, n3, n4};
 ghost use Rattle.cd_normal.specs.Made.{rows, Adds, Closes, ClosesTwo, rest_rows, minus_rows, some_rows, list_rows, link_rows};
@@ -7,6 +8,7 @@ use cd_base::{Atom, Conj, Memory, Role, Seq, Triple};
 use std::alloc::Global;
 
 impl Maker {
+    /// What is in every atom on the left is in some atom on the right. Constant time, but for growing the list; so are the others below that add one axiom.
     pub(crate) fn imply(&mut self, left: Vec<Atom>, right: Vec<Atom>) -> Result<(), Memory>
         ensures next { self.new.next ≡ self.old.next }
         ensures few { rows self.new ≤ rows self.old + 1 }
@@ -19,6 +21,7 @@ impl Maker {
         Ok(())
     }
 
+    /// Every element of the atom has an edge of the role to an element of the other.
     fn give(&mut self, atom: u32, role: u32, other: u32) -> Result<(), Memory>
         ensures next { self.new.next ≡ self.old.next }
         ensures few { rows self.new ≤ rows self.old + 1 }
@@ -32,6 +35,7 @@ impl Maker {
         Ok(())
     }
 
+    /// Every element with an edge of the role to an element of the atom is in the other.
     pub(crate) fn back(&mut self, atom: u32, role: u32, other: u32) -> Result<(), Memory>
         ensures next { self.new.next ≡ self.old.next }
         ensures few { rows self.new ≤ rows self.old + 1 }
@@ -47,6 +51,7 @@ impl Maker {
 }
 
 impl Maker {
+    /// A fresh atom.
     pub(crate) fn fresh(&mut self) -> u32
         requires room { self.old.next + 1 < 2 ^ 32 }
         ensures number { result ≡ self.old.next }
@@ -57,6 +62,7 @@ impl Maker {
         x
     }
 
+    /// A fresh atom for the complement of a class: apart from it (pos), or all that is not in it (neg).
     pub(crate) fn minus_use(&mut self, alloc: Global, class: u32, sign: bool) -> Result<u32, Memory>
         requires room { self.old.next + 1 < 2 ^ 32 }
         ensures closes { IfOk result (λ x. Closes self.old self.new x (minus_rows sign x class)) }
@@ -72,6 +78,7 @@ impl Maker {
         Ok(x)
     }
 
+    /// A fresh atom for an existential over an atom: below it (pos), or above it (neg).
     pub(crate) fn some_use(&mut self, role: u32, part: u32, sign: bool) -> Result<u32, Memory>
         requires room { self.old.next + 1 < 2 ^ 32 }
         ensures closes { IfOk result (λ x. Closes self.old self.new x (some_rows sign x role part)) }
@@ -106,6 +113,7 @@ impl Maker {
         Ok(())
     }
 
+    /// From x to y, or from y to x. Constant time, but for growing the list.
     pub(crate) fn link(
         &mut self,
         alloc: Global,
@@ -126,6 +134,7 @@ impl Maker {
         }
     }
 
+    /// A fresh atom for an intersection or a union of atoms: below it (pos), or above it (neg). Linear in the atoms.
     pub(crate) fn list_use(
         &mut self,
         alloc: Global,
@@ -153,6 +162,7 @@ impl Maker {
 }
 
 impl Maker {
+    /// Every edge of the role from an element of the atom goes to an element of the other.
     pub(crate) fn far(&mut self, atom: u32, role: u32, other: u32) -> Result<(), Memory>
         ensures next { self.new.next ≡ self.old.next }
         ensures few { rows self.new ≤ rows self.old + 1 }
@@ -166,6 +176,7 @@ impl Maker {
         Ok(())
     }
 
+    /// A fresh atom below a universal over an atom.
     pub(crate) fn all_use(&mut self, role: u32, part: u32) -> Result<u32, Memory>
         requires room { self.old.next + 1 < 2 ^ 32 }
         ensures closes { IfOk result (λ x. Closes self.old self.new x (n4 (triple x role part) ∷ [])) }
@@ -176,6 +187,7 @@ impl Maker {
         Ok(x)
     }
 
+    /// A fresh atom above a universal: what is not in it is in a second fresh atom, which has an edge to the atom of the complement.
     pub(crate) fn rest_use(&mut self, alloc: Global, role: u32, part: u32) -> Result<u32, Memory>
         requires room { self.old.next + 2 < 2 ^ 32 }
         ensures closes { IfOk result (λ x. ClosesTwo self.old self.new x (rest_rows x role part)) }

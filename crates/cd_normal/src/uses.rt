@@ -1,3 +1,4 @@
+//! The atom of an expression, from those of its parts.
 ghost use Rattle.std.specs.Prelude.{◌≡◌, ◌+◌, ◌*◌, ◌<◌, ◌^◌, ℕ, sum_by, length, IsTrue, IfOk, map};
 ghost use Rattle.std.specs.List.{list_all};
 ghost use Rattle.cd_meaning.specs.Nodes.{nodes_of};
