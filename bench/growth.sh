@@ -5,9 +5,7 @@
 #
 #   bench/growth.sh [n of the flat taxonomy, 25000] [n of the chain, 1000]
 set -eu
-top=$(cd "$(dirname "$0")/.." && pwd)
-folder=$(mktemp -d)
-trap 'rm -rf "$folder"' EXIT
+. "$(dirname "$0")/measure.sh"
 flat_n=${1:-25000}
 chain_n=${2:-1000}
 
@@ -19,29 +17,17 @@ chain() {
   awk -v n="$1" 'BEGIN { print "Ontology("; for (i = 1; i < n; i++) printf "SubClassOf(<x:C%d> <x:C%d>)\n", i - 1, i; print ")" }'
 }
 
-# The least seconds of three runs, and the greatest peak in KiB.
-measure() {
-  local start
-  for _ in 1 2 3; do
-    start=$EPOCHREALTIME
-    command time -f '%M' -o "$folder/peak" "$top/crates/condor/out/condor" classify <"$1" >"$folder/out"
-    echo "$start $EPOCHREALTIME $(cat "$folder/peak")"
-  done | awk '{ t = $2 - $1 } NR == 1 || t < least { least = t } $3 > peak { peak = $3 } END { printf "%.4f %d\n", least, peak }'
-}
-
 compare() {
   local small large
   "$1" "$2" >"$folder/small.ofn"
   "$1" "$(($2 * 4))" >"$folder/large.ofn"
-  small=$(measure "$folder/small.ofn")
-  large=$(measure "$folder/large.ofn")
+  small=$(measure "$folder/small.ofn" "$program" classify)
+  large=$(measure "$folder/large.ofn" "$program" classify)
   echo "$1 $2 $small $large" | awk '{
     printf "%-6s %7d classes %7.3f s %7.1f MB   %7d classes %7.3f s %7.1f MB   ratio %.1f\n",
       $1, $2, $3, $4 / 1024, $2 * 4, $5, $6 / 1024, ($3 > 0 ? $5 / $3 : 0)
   }'
 }
 
-# The first call builds the program, which is no part of what is measured.
-echo 'Ontology()' | "$top/condor" classify >/dev/null
 compare flat "$flat_n"
 compare chain "$chain_n"

@@ -6,9 +6,7 @@
 #
 #   bench/reading.sh [classes, 230000] [bytes of the string and of the comment, 2500000]
 set -eu
-top=$(cd "$(dirname "$0")/.." && pwd)
-folder=$(mktemp -d)
-trap 'rm -rf "$folder"' EXIT
+. "$(dirname "$0")/measure.sh"
 classes=${1:-230000}
 bytes=${2:-2500000}
 
@@ -50,21 +48,10 @@ constructs() {
 string() { printf 'Ontology(Annotation(<x:a> "'; head -c "$1" /dev/zero | tr '\0' 'a'; printf '"))'; }
 comment() { printf 'Ontology(#'; head -c "$1" /dev/zero | tr '\0' 'a'; printf '\n)'; }
 
-# The least seconds of three runs of a command on a file, and the greatest peak in KiB.
-measure() {
-  local file=$1 start
-  shift
-  for _ in 1 2 3; do
-    start=$EPOCHREALTIME
-    command time -q -f '%M' -o "$folder/peak" "$@" <"$file" >"$folder/out" 2>"$folder/notes" || true
-    echo "$start $EPOCHREALTIME $(cat "$folder/peak")"
-  done | awk '{ t = $2 - $1 } NR == 1 || t < least { least = t } $3 > peak { peak = $3 } END { printf "%.4f %d\n", least, peak }'
-}
-
 # The seconds of one run that is fed a byte at a time.
 fed_by_bytes() {
   local start=$EPOCHREALTIME
-  dd if="$1" bs=1 status=none | "$top/crates/condor/out/condor" classify >"$folder/out"
+  dd if="$1" bs=1 status=none | "$program" classify >"$folder/out"
   echo "$start $EPOCHREALTIME" | awk '{ printf "%.4f\n", $2 - $1 }'
 }
 
@@ -76,11 +63,9 @@ grow() {
   }'
 }
 
-# The first call builds the program, which is no part of what is measured.
-echo 'Ontology()' | "$top/condor" classify >/dev/null
 read_beside_words() {
   "$1" "$classes" >"$folder/document.ofn"
-  echo "$1 $(stat -c %s "$folder/document.ofn") $(measure "$folder/document.ofn" "$top/crates/condor/out/condor" classify) $(measure "$folder/document.ofn" wc -w)" | awk '{
+  echo "$1 $(stat -c %s "$folder/document.ofn") $(measure "$folder/document.ofn" "$program" classify) $(measure "$folder/document.ofn" wc -w)" | awk '{
     printf "%-10s %9.1f MB   condor %.3f s   wc -w %.3f s   ratio %.1f   peak %.1f MB, %.1f times the document\n",
       $1, $2 / 1e6, $3, $5, ($5 > 0 ? $3 / $5 : 0), $4 * 1024 / 1e6, $4 * 1024 / $2
   }'
