@@ -1,4 +1,4 @@
-//! What every other crate speaks of: lists that contracts see as lists, atoms and what is said of them, the limits of a run,
+//! What every other crate speaks of: lists that contracts see as lists, atoms, keys and what is said of them, the limits of a run,
 //! and the one error that any call may give, want of memory.
 //!
 //! It stands at the bottom, so nothing here knows of documents, interpretations or bytes.
@@ -6,7 +6,10 @@
 
 mod answer;
 mod atom;
+mod key;
+mod limit_kind;
 mod limits;
+mod lit;
 mod memory;
 mod normal;
 mod role;
@@ -16,7 +19,10 @@ mod tests;
 
 pub use answer::Answer;
 pub use atom::Atom;
+pub use key::Key;
+pub use limit_kind::LimitKind;
 pub use limits::Limits;
+pub use lit::Lit;
 pub use memory::Memory;
 pub use normal::{Conj, Normal, RolePair, Triple};
 pub use role::Role;

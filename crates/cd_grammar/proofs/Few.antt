@@ -23,7 +23,8 @@ use Rattle.cd_grammar.proofs.Added.{length_added}
 use Rattle.cd_grammar.proofs.Kept.{kept, all_fit}
 use Rattle.cd_grammar.proofs.Lexed.{lexed_cut}
 use Rattle.cd_grammar.proofs.Moves.{waiting, replaced_waiting, IsBehind, Moves}
-use Rattle.cd_grammar.proofs.NodesTable.{nodes-Name, nodes_made}
+use Rattle.cd_meaning.specs.NodesTable.{nodes-Name}
+use Rattle.cd_grammar.proofs.OperandNodes.{nodes_made}
 
 -- behind n items so much is known at most
 record IsFew (n : ℕ) (known : Known) (stack : List Symbol) : Type 0 where

@@ -20,9 +20,9 @@ pub mod Items
 pub mod Kept
 pub mod Lexed
 pub mod Moves
-pub mod NodesTable
+pub mod OperandNodes
 pub mod Numbered
-pub mod NumbersTable
+pub mod OperandNumbers
 pub mod OneFault
 pub mod OneReading
 pub mod Parsing

@@ -23,7 +23,8 @@ use Rattle.cd_grammar.specs.Reading.{IsSound}
 use Rattle.cd_grammar.proofs.Added.{added_length, number_within, distinct_added, reserved_added}
 use Rattle.cd_grammar.proofs.Kept.{kept, all_fit}
 use Rattle.cd_grammar.proofs.Moves.{is_operandless, replaced_operandless, IsBehind, Moves}
-use Rattle.cd_grammar.proofs.NumbersTable.{below-Name, HaveNumbersBelow, operands_stay, axioms_stay, made_below}
+use Rattle.cd_meaning.specs.NodesTable.{below-Name}
+use Rattle.cd_grammar.proofs.OperandNumbers.{HaveNumbersBelow, operands_stay, axioms_stay, made_below}
 
 -- ---- what is wanted
 

@@ -6,6 +6,7 @@ pub mod Iri
 pub mod Membership
 pub mod MembershipTable
 pub mod Nodes
+pub mod NodesTable
 pub mod NormalAxioms
 pub mod Numbered
 pub mod Reading

@@ -13,7 +13,7 @@ use Rattle.cd_normal.specs.Method.{IsFresh, Kept, Chain, Apart, UsesApart, Gives
 use Rattle.cd_normal.specs.Made.{IsMentioned, IsUseEach, IsGiven, IsGrown, IsGrownBy}
 use Rattle.cd_normal.proofs.Making.{more_each, adds_both}
 use Rattle.cd_normal.proofs.Mentions.{mentioned_both}
-use Rattle.cd_normal.proofs.Sizes.{nodes-Name, nodes-Meet, nodes-Join, nodes-Minus, nodes-SomeOf, nodes-AllOf}
+use Rattle.cd_meaning.specs.NodesTable.{nodes-Name, nodes-Meet, nodes-Join, nodes-Minus, nodes-SomeOf, nodes-AllOf}
 
 -- ---- each atom is mentioned
 

@@ -15,7 +15,7 @@ use Rattle.cd_meaning.specs.Induction.{induct}
 use Rattle.cd_nnf.specs.NnfTable.{nnf-Name, nnf-Minus, nnf-SomeOf, nnf-AllOf, nnf-Meet, nnf-Join, nnf_not-Meet, nnf_not-Join, nnf_not-Name, nnf_not-Minus, nnf_not-SomeOf, nnf_not-AllOf}
 use Rattle.cd_normal.specs.Uses.{Label, use_of, rest_of, Uses, UsesEach, by_name, pos_minus, pos_meet, pos_join, pos_some, pos_all, neg_minus, neg_meet, neg_join, neg_some, neg_all, at_end, and_then}
 use Rattle.cd_normal.proofs.Tests.{all_by_member, all_member, member_cases, map_member}
-use Rattle.cd_normal.proofs.Sizes.{below-Minus, below-Meet, below-Join, below-SomeOf, below-AllOf}
+use Rattle.cd_meaning.specs.NodesTable.{below-Minus, below-Meet, below-Join, below-SomeOf, below-AllOf}
 
 -- the two normal forms have the numbers of the expression
 module _ (classes roles : ℕ) where

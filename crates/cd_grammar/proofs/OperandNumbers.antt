@@ -1,18 +1,18 @@
--- Whether the numbers of a class expression are in range, a line for each form, and how far that goes for what operands make.
-use Rattle.std.proofs.Common.{◌≡◌, ℕ, ◌≤◌, Bool, true, false, ◌&&◌, cond, IsTrue, List, [], ◌∷◌, map, refl, ap, sym, subst, ◌∙◌, arith}
+-- How far the numbers of what operands make go.
+use Rattle.std.proofs.Common.{◌≡◌, ℕ, ◌≤◌, Bool, true, false, ◌&&◌, cond, IsTrue, List, [], ◌∷◌, map, refl, sym, subst, ◌∙◌, arith}
 use Rattle.std.specs.Prelude.{Option, Some, None, nat_lt}
 use Rattle.std.specs.List.{AllByRecursion, list_all}
 use Rattle.std.specs.Option.{option_map}
 use Rattle.std.proofs.lemmas.Bool.{and_parts, and_from, ltb-true, lt-ltb}
-use Rattle.std.proofs.lemmas.List.Folds.{list_all-map}
 use Rattle.cd_meaning.specs.declared.expression.Axiom.{Axiom}
 use Rattle.cd_meaning.specs.declared.expression.Axiom.TheVariants.{SubClass, SameClasses, Disjoint, DisjointUnion, SubRole, SameRoles, Domain, Range}
 use Rattle.cd_meaning.specs.declared.expression.Expr.{Expr}
 use Rattle.cd_meaning.specs.declared.expression.Expr.TheVariants.{Name, Meet, Join, Minus, SomeOf, AllOf, rolls-Name, rolls-Meet, rolls-Join, rolls-Minus, rolls-SomeOf, rolls-AllOf}
 use Rattle.cd_meaning.specs.declared.expression.Expr.TheOpen.{Expr-F}
 use Rattle.cd_meaning.specs.declared.expression.Expr.TheViews.{roll-Expr}
-use Rattle.cd_meaning.specs.declared.expression.Expr.TheFolds.{fold-roll-Expr, map-Expr, ind-Expr}
-use Rattle.cd_meaning.specs.Numbered.{below_by_parts, is_below, has_numbers_below}
+use Rattle.cd_meaning.specs.declared.expression.Expr.TheFolds.{map-Expr, ind-Expr}
+use Rattle.cd_meaning.specs.Numbered.{is_below, has_numbers_below}
+use Rattle.cd_meaning.specs.NodesTable.{below-Name, below-Meet, below-Join, below-Minus, below-SomeOf, below-AllOf}
 use Rattle.cd_grammar.specs.declared.operands.Made.{Made}
 use Rattle.cd_grammar.specs.declared.words.AxiomForm.{AxiomForm}
 use Rattle.cd_grammar.specs.declared.words.AxiomForm.TheVariants.{SubClassOf, EquivalentClasses, DisjointClasses, SubObjectPropertyOf, EquivalentObjectProperties, ObjectPropertyDomain, ObjectPropertyRange}
@@ -20,28 +20,6 @@ use Rattle.cd_grammar.specs.declared.words.ExprForm.{ExprForm}
 use Rattle.cd_grammar.specs.declared.words.ExprForm.TheVariants.{ObjectIntersectionOf, ObjectUnionOf, ObjectComplementOf, ObjectSomeValuesFrom, ObjectAllValuesFrom}
 use Rattle.cd_grammar.specs.declared.words.Form.{Form}
 use Rattle.cd_grammar.specs.Operands.{axiom_of, expression_of, has_class_head, made_of}
-
-module _ (n m : ℕ) where
-  below-roll : (e : Expr) (layer : Expr-F Expr) → roll-Expr layer ≡ e → is_below n m e ≡ below_by_parts n m (map-Expr Expr Bool (is_below n m) layer)
-  below-roll e layer rolls = ap (is_below n m) (sym rolls) ∙ fold-roll-Expr Bool (below_by_parts n m) layer
-
-  pub below-Name : (c : ℕ) → is_below n m (Name c) ≡ nat_lt c n
-  below-Name c = below-roll (Name c) (Expr-F.Name c) (rolls-Name c)
-
-  below-Meet : (parts : List Expr) → is_below n m (Meet parts) ≡ list_all (is_below n m) parts
-  below-Meet parts = below-roll (Meet parts) (Expr-F.Meet parts) (rolls-Meet parts) ∙ list_all-map (λ (part : Bool). part) (is_below n m) parts
-
-  below-Join : (parts : List Expr) → is_below n m (Join parts) ≡ list_all (is_below n m) parts
-  below-Join parts = below-roll (Join parts) (Expr-F.Join parts) (rolls-Join parts) ∙ list_all-map (λ (part : Bool). part) (is_below n m) parts
-
-  below-Minus : (part : Expr) → is_below n m (Minus part) ≡ is_below n m part
-  below-Minus part = below-roll (Minus part) (Expr-F.Minus part) (rolls-Minus part)
-
-  below-SomeOf : (r : ℕ) (part : Expr) → is_below n m (SomeOf r part) ≡ (nat_lt r m && is_below n m part)
-  below-SomeOf r part = below-roll (SomeOf r part) (Expr-F.SomeOf r part) (rolls-SomeOf r part)
-
-  below-AllOf : (r : ℕ) (part : Expr) → is_below n m (AllOf r part) ≡ (nat_lt r m && is_below n m part)
-  below-AllOf r part = below-roll (AllOf r part) (Expr-F.AllOf r part) (rolls-AllOf r part)
 
 -- ---- with more numbers
 

@@ -1,14 +1,10 @@
--- How many nodes a class expression has, a line for each form, and what its operands come to.
-use Rattle.std.proofs.Common.{◌≡◌, ℕ, ◌+◌, ◌≤◌, List, [], ◌∷◌, ap, sym, subst, ◌∙◌, arith}
+-- How many nodes a class expression and an axiom have that operands make.
+use Rattle.std.proofs.Common.{◌≡◌, ℕ, ◌+◌, ◌≤◌, List, [], ◌∷◌, subst, arith}
 use Rattle.std.specs.Prelude.{Option, Some, None, sum_by}
 use Rattle.std.specs.Option.{option_map}
-use Rattle.std.proofs.lemmas.List.Sums.{sum-map}
 use Rattle.cd_meaning.specs.declared.expression.Expr.{Expr}
-use Rattle.cd_meaning.specs.declared.expression.Expr.TheVariants.{Name, Meet, Join, Minus, SomeOf, AllOf, rolls-Name, rolls-Meet, rolls-Join, rolls-Minus, rolls-SomeOf, rolls-AllOf}
-use Rattle.cd_meaning.specs.declared.expression.Expr.TheOpen.{Expr-F}
-use Rattle.cd_meaning.specs.declared.expression.Expr.TheViews.{roll-Expr}
-use Rattle.cd_meaning.specs.declared.expression.Expr.TheFolds.{fold-roll-Expr, map-Expr}
-use Rattle.cd_meaning.specs.Nodes.{nodes_by_parts, nodes_of, nodes_in}
+use Rattle.cd_meaning.specs.Nodes.{nodes_of, nodes_in}
+use Rattle.cd_meaning.specs.NodesTable.{nodes-Meet, nodes-Join, nodes-Minus, nodes-SomeOf, nodes-AllOf}
 use Rattle.cd_grammar.specs.declared.operands.Made.{Made}
 use Rattle.cd_grammar.specs.declared.words.AxiomForm.{AxiomForm}
 use Rattle.cd_grammar.specs.declared.words.AxiomForm.TheVariants.{SubClassOf, EquivalentClasses, DisjointClasses, SubObjectPropertyOf, EquivalentObjectProperties, ObjectPropertyDomain, ObjectPropertyRange}
@@ -16,27 +12,6 @@ use Rattle.cd_grammar.specs.declared.words.ExprForm.{ExprForm}
 use Rattle.cd_grammar.specs.declared.words.ExprForm.TheVariants.{ObjectIntersectionOf, ObjectUnionOf, ObjectComplementOf, ObjectSomeValuesFrom, ObjectAllValuesFrom}
 use Rattle.cd_grammar.specs.declared.words.Form.{Form}
 use Rattle.cd_grammar.specs.Operands.{axiom_of, expression_of, made_of}
-
-nodes-roll : (e : Expr) (layer : Expr-F Expr) → roll-Expr layer ≡ e → nodes_of e ≡ nodes_by_parts (map-Expr Expr ℕ nodes_of layer)
-nodes-roll e layer rolls = ap nodes_of (sym rolls) ∙ fold-roll-Expr ℕ nodes_by_parts layer
-
-pub nodes-Name : (c : ℕ) → nodes_of (Name c) ≡ 1
-nodes-Name c = nodes-roll (Name c) (Expr-F.Name c) (rolls-Name c)
-
-nodes-Meet : (parts : List Expr) → nodes_of (Meet parts) ≡ 1 + sum_by nodes_of parts
-nodes-Meet parts = nodes-roll (Meet parts) (Expr-F.Meet parts) (rolls-Meet parts) ∙ ap (λ (n : ℕ). 1 + n) (sum-map nodes_of parts)
-
-nodes-Join : (parts : List Expr) → nodes_of (Join parts) ≡ 1 + sum_by nodes_of parts
-nodes-Join parts = nodes-roll (Join parts) (Expr-F.Join parts) (rolls-Join parts) ∙ ap (λ (n : ℕ). 1 + n) (sum-map nodes_of parts)
-
-nodes-Minus : (part : Expr) → nodes_of (Minus part) ≡ 1 + nodes_of part
-nodes-Minus part = nodes-roll (Minus part) (Expr-F.Minus part) (rolls-Minus part)
-
-nodes-SomeOf : (r : ℕ) (part : Expr) → nodes_of (SomeOf r part) ≡ 1 + nodes_of part
-nodes-SomeOf r part = nodes-roll (SomeOf r part) (Expr-F.SomeOf r part) (rolls-SomeOf r part)
-
-nodes-AllOf : (r : ℕ) (part : Expr) → nodes_of (AllOf r part) ≡ 1 + nodes_of part
-nodes-AllOf r part = nodes-roll (AllOf r part) (Expr-F.AllOf r part) (rolls-AllOf r part)
 
 -- ---- what operands make
 
