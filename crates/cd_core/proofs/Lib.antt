@@ -1,0 +1,5 @@
+pub mod Lists
+pub mod Turns
+pub mod Begins
+pub mod Orders
+pub mod Numbers

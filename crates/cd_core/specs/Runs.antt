@@ -1,0 +1,28 @@
+-- Runs by any list of choices.
+use Rattle.std.specs.Prelude.{◌≡◌, ℕ, false, Bool, List, [], ◌∷◌}
+use Rattle.cd_base.specs.Lists.{Member}
+use Rattle.cd_actor.specs.Meaning.{Meaning}
+use Rattle.cd_actor.specs.Cells.{At, Had}
+use Rattle.cd_core.specs.State.{Runs, KeepsAll}
+use Rattle.cd_core.specs.Begin.{IsBegun}
+use Rattle.cd_core.specs.Steps.{IsStepOrEmpty}
+use Rattle.cd_core.specs.declared.stops.Step.{Step}
+
+-- what `step` ensures where it wants for no memory
+pub record IsStepped {A M : Type 0} (g : Meaning A M) (choice : ℕ) (old new : List A × List (ℕ × M) × Bool) : Type 0 where
+  pub step : Step
+  pub ok : IsStepOrEmpty g choice old new step
+  pub keeps : KeepsAll g old.0 old.1 new.0 new.1
+  pub sound : Runs g new.0 new.1
+  pub stands : new.2 ≡ false
+
+-- one core comes to the other by steps with these choices
+abbrev pub ComesTo : {A M : Type 0} → Meaning A M → List ℕ → List A × List (ℕ × M) × Bool → List A × List (ℕ × M) × Bool → Type 0
+ComesTo g [] old new = new ≡ old
+ComesTo {A} {M} g (choice ∷ choices) old new = (next : List A × List (ℕ × M) × Bool) × IsStepped g choice old next × ComesTo g choices next new
+
+-- whatever the choices: where a core that began with these start messages has come to one in which nothing pends, each start message is had, and each message that is owed
+abbrev pub EveryOrder : {A M : Type 0} → Meaning A M → Type 0
+EveryOrder {A} {M} g = (cells : List A) (start : List (ℕ × M)) (choices : List ℕ) (first last : List A × List (ℕ × M) × Bool)
+    → IsBegun g cells start first → Runs g first.0 first.1 → ComesTo g choices first last → last.1 ≡ []
+    → ((x : ℕ × M) → Member x start → Had g last.0 x) × ((i : ℕ) (a : A) → At last.0 i a → (p : ℕ) (m : M) → g.owes a p m → Had g last.0 (p, m))

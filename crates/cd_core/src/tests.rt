@@ -1,0 +1,194 @@
+//! Cores over cells that are no part of a reasoner: a cell of numbers has those that were delivered, and for each number n above 0
+//! owes n - 1 to the cell at place n - 1, counted round.
+ghost use Rattle.std.specs.Prelude.{◌≡◌, ℕ, ◌<◌, ◌+◌, ◌-◌, ◌%◌, ◌==◌, ◌++◌, [], ◌∷◌, length, OnOk, OnErr, if◌then◌else◌};
+ghost use Rattle.std.specs.List.{list_any};
+ghost use Rattle.std.proofs.Common.{arith};
+ghost use Rattle.cd_base.specs.Lists.{Member};
+
+use crate::{Core, Step, Stop};
+use cd_actor::{Actor, Outbox};
+use cd_base::{LimitKind, Limits, Memory};
+use std::alloc::Global;
+use std::marker::Model;
+use std::test::Fail;
+
+#[derive(Debug, Drop)]
+struct Numbers {
+    place: u32,
+    places: u32,
+    numbers: Vec<u32>,
+}
+
+impl Model for Numbers {
+    ghost use Rattle.std.specs.Prelude.{ℕ, List, ◌<◌};
+    ghost use Rattle.cd_base.specs.Lists.{IsApart};
+
+    ghost Value = { ℕ × ℕ × List ℕ };
+
+    ghost view = { λ c. (c.place, c.places, c.numbers.items) };
+
+    ghost invariant = { λ c. (c.place < c.places) × IsApart c.numbers.items };
+}
+
+impl Actor for Numbers {
+    type Msg = u32;
+
+    ghost meaning = { record {
+      place = λ c. c.0;
+      places = λ c. c.1;
+      lawful = λ c p m. p < c.1;
+      has = λ c m. list_any (λ n. n == m) c.2;
+      owes = λ c p m. Member (m + 1) c.2 × (p ≡ m % c.1);
+      whole = λ c. c.0 < c.1;
+      contexts = λ c. 0;
+      facts = λ c. length c.2;
+    } };
+
+    ghost lawful_below = { λ c p m l. l };
+
+    ghost owed_lawful = { λ c p m w o. let e : p ≡ m % c.1 = o.1 in Prim.omega arith };
+
+    fn deliver(
+        &mut self,
+        _alloc: Global,
+        message: u32,
+        out: &mut Outbox<u32>,
+    ) -> Result<(), Memory> {
+        if self.has(&message) {
+            return Ok(());
+        }
+        self.numbers.push(message)?;
+        put_owed(self.places, message, out)?;
+        Ok(())
+    }
+
+    fn has(&self, message: &u32) -> bool {
+        self.numbers.as_slice().contains(message)
+    }
+
+    fn list_owed(&self, _alloc: Global, out: &mut Outbox<u32>) -> Result<(), Memory> {
+        'numbers: for number in &self.numbers {
+            put_owed(self.places, *number, out)?;
+        }
+        Ok(())
+    }
+
+    fn contexts(&self) -> u64 {
+        0
+    }
+
+    fn facts(&self) -> u64 {
+        self.numbers.len() as u64
+    }
+}
+
+/// Appends what the number owes.
+fn put_owed(places: u32, number: u32, out: &mut Outbox<u32>) -> Result<(), Memory>
+    requires { 0 < places }
+    ensures ok { OnOk result (out.new ≡ out.old ++ (if number == 0 then [] else ((number - 1) % places, number - 1) ∷ [])) }
+    ensures err { OnErr result (out.new ≡ out.old) }
+{
+    if number > 0 {
+        let next = number - 1;
+        out.put(next % places, next)?;
+    }
+    Ok(())
+}
+
+/// The cell of this place of two, without numbers.
+fn empty_cell(alloc: Global, place: u32) -> Numbers
+    requires { place < 2 }
+    ensures { result ≡ (place, 2, []) }
+{
+    Numbers {
+        place,
+        places: 2,
+        numbers: Vec::new(alloc),
+    }
+}
+
+/// Two cells without numbers, where 5 pends for the second.
+fn core_of_five(alloc: Global) -> Result<Core<Numbers>, Memory> {
+    let cells = vec![in alloc; empty_cell(alloc, 0), empty_cell(alloc, 1)]?;
+    let start = vec![in alloc; (1, 5)]?;
+    Core::resume(alloc, cells, start)
+}
+
+/// Limits of a run that differ in the facts alone.
+fn up_to(max_facts: u64) -> Option<Limits> {
+    Limits::with(1, 1, 1, 1, max_facts)
+}
+
+/// The numbers of the cells, one cell after another.
+fn numbers_of(alloc: Global, cells: &[Numbers]) -> Result<Vec<u32>, Memory> {
+    let mut all = Vec::new(alloc);
+    for cell in cells {
+        all.extend_from_slice(cell.numbers.as_slice())?;
+    }
+    Ok(all)
+}
+
+#[test]
+fn a_run_comes_to_all_that_is_owed(rt: HostRuntime) -> Result<(), Fail> {
+    let mut core = core_of_five(rt.alloc())?;
+    assert_eq!(rt; core.pending(), 1);
+    assert_eq!(rt; core.step(rt.alloc(), 7)?, Step::Delivered);
+    assert_eq!(rt; core.pending(), 1);
+    let cells = core.finish(rt.alloc(), &up_to(7).ok_or("out of range")?)?;
+    assert_eq!(rt;
+        numbers_of(rt.alloc(), &cells)?.as_slice(),
+        [4, 2, 0, 5, 3, 1].as_slice()
+    );
+    Ok(())
+}
+
+#[test]
+fn a_step_delivers_the_message_of_its_choice(rt: HostRuntime) -> Result<(), Fail> {
+    let cells = vec![in rt.alloc(); empty_cell(rt.alloc(), 0), empty_cell(rt.alloc(), 1)]?;
+    let start = vec![in rt.alloc(); (0, 0), (1, 0), (0, 2)]?;
+    let mut core = Core::resume(rt.alloc(), cells, start)?;
+    // Choice 4 of three messages is the second. Then 2 is delivered, and 1, which it owes, pends behind the first 0.
+    assert_eq!(rt; core.step(rt.alloc(), 4)?, Step::Delivered);
+    assert_eq!(rt; core.step(rt.alloc(), 1)?, Step::Delivered);
+    assert_eq!(rt; core.pending(), 2);
+    assert_eq!(rt; core.step(rt.alloc(), 1)?, Step::Delivered);
+    let cells = core.finish(rt.alloc(), &up_to(9).ok_or("out of range")?)?;
+    assert_eq!(rt;
+        numbers_of(rt.alloc(), &cells)?.as_slice(),
+        [2, 0, 0, 1].as_slice()
+    );
+    Ok(())
+}
+
+#[test]
+fn a_run_stops_at_its_maximum_and_goes_on_from_its_cells(rt: HostRuntime) -> Result<(), Fail> {
+    let core = core_of_five(rt.alloc())?;
+    match core.finish(rt.alloc(), &up_to(3).ok_or("out of range")?) {
+        Err(Stop::Limit(LimitKind::Facts, 3, cells)) => {
+            assert_eq!(rt;
+                numbers_of(rt.alloc(), &cells)?.as_slice(),
+                [4, 5, 3].as_slice()
+            );
+            let core = Core::resume(rt.alloc(), cells, Vec::new(rt.alloc()))?;
+            assert_eq!(rt; core.pending(), 1);
+            let cells = core.finish(rt.alloc(), &up_to(7).ok_or("out of range")?)?;
+            assert_eq!(rt;
+                numbers_of(rt.alloc(), &cells)?.as_slice(),
+                [4, 2, 0, 5, 3, 1].as_slice()
+            );
+        }
+        _ => assert!(rt; false, "no stop at three facts"),
+    }
+    Ok(())
+}
+
+#[test]
+fn a_core_without_messages_is_empty(rt: HostRuntime) -> Result<(), Fail> {
+    let cells = vec![in rt.alloc(); empty_cell(rt.alloc(), 0), empty_cell(rt.alloc(), 1)]?;
+    let mut core = Core::resume(rt.alloc(), cells, Vec::new(rt.alloc()))?;
+    assert_eq!(rt; core.pending(), 0);
+    assert_eq!(rt; core.step(rt.alloc(), 3)?, Step::Empty);
+    let cells = core.finish(rt.alloc(), &up_to(1).ok_or("out of range")?)?;
+    assert_eq!(rt; cells.len(), 2);
+    Ok(())
+}
