@@ -1,0 +1,112 @@
+//! The elements of clauses.
+ghost use Rattle.std.specs.Prelude.{◌≡◌, map, IfOk};
+ghost use Rattle.cd_base.specs.Keys.{code};
+ghost use Rattle.cd_clause.specs.Dictionary.{is_at_most, same_numbers};
+ghost use Rattle.cd_clause.specs.Elements.{same_elem, is_before};
+
+use cd_base::{Atom, Key, Lit, Memory, Role};
+use std::alloc::Global;
+use std::default::MadeWith;
+
+/// What a clause is made of.
+#[derive(Debug, Drop)]
+pub enum Elem {
+    /// The element is in this atom.
+    Plain(Atom),
+    /// The element has an edge of this role to what meets this key.
+    Exist(Role, Key),
+}
+
+/// What stands in a place of a clause that holds no element.
+impl MadeWith<Global> for Elem {
+    fn made_with(_alloc: Global) -> Elem {
+        Elem::Plain(Atom(0))
+    }
+}
+
+impl Elem {
+    /// The same element again. Linear in the literals of its key, and takes no memory up to four.
+    pub fn copy(&self) -> Result<Elem, Memory>
+        ensures { IfOk result (λ elem. elem ≡ self.now) }
+    {
+        match self {
+            Elem::Plain(atom) => Ok(Elem::Plain(*atom)),
+            Elem::Exist(role, key) => Ok(Elem::Exist(*role, key.copy()?)),
+        }
+    }
+
+    /// Whether it is the same element. Linear in the literals of the keys.
+    pub fn is_same(&self, other: &Elem) -> bool
+        ensures { result ≡ same_elem self.now other.now }
+    {
+        match self {
+            Elem::Plain(left) => match other {
+                Elem::Plain(right) => left.0 == right.0,
+                Elem::Exist(_, _) => false,
+            },
+            Elem::Exist(role, key) => match other {
+                Elem::Plain(_) => false,
+                Elem::Exist(other_role, other_key) => {
+                    role.0 == other_role.0 && are_same(key.lits(), other_key.lits())
+                }
+            },
+        }
+    }
+
+    /// Whether it stands before the other in a clause. Linear in the literals of the keys.
+    pub(crate) fn is_before(&self, other: &Elem) -> bool
+        ensures { result ≡ is_before self.now other.now }
+    {
+        match self {
+            Elem::Plain(left) => match other {
+                Elem::Plain(right) => left.0 < right.0,
+                Elem::Exist(_, _) => true,
+            },
+            Elem::Exist(role, key) => match other {
+                Elem::Plain(_) => false,
+                Elem::Exist(other_role, other_key) => {
+                    if role.0 == other_role.0 {
+                        !are_at_most(other_key.lits(), key.lits())
+                    } else {
+                        role.0 < other_role.0
+                    }
+                }
+            },
+        }
+    }
+}
+
+/// Whether the codes of the first are at most those of the second, in dictionary order. Linear in the shorter.
+pub(crate) fn are_at_most(left: &[Lit], right: &[Lit]) -> bool
+    ensures { result ≡ is_at_most (map code left.now) (map code right.now) }
+{
+    match left {
+        [] => true,
+        [first, left_rest @ ..] => match right {
+            [] => false,
+            [second, right_rest @ ..] => {
+                if first.code() < second.code() {
+                    true
+                } else if first.code() == second.code() {
+                    are_at_most(left_rest, right_rest)
+                } else {
+                    false
+                }
+            }
+        },
+    }
+}
+
+/// Whether the codes are the same, one by one.
+fn are_same(left: &[Lit], right: &[Lit]) -> bool
+    ensures { result ≡ same_numbers (map code left.now) (map code right.now) }
+{
+    match left {
+        [] => right.is_empty(),
+        [first, left_rest @ ..] => match right {
+            [] => false,
+            [second, right_rest @ ..] => first.code() == second.code()
+                && are_same(left_rest, right_rest),
+        },
+    }
+}

@@ -1,0 +1,63 @@
+//! Which elements of a clause the rules work on.
+ghost use Rattle.std.specs.Prelude.{◌≡◌, ◌<◌, ◌↔◌, map, length, slice_index_or, true};
+ghost use Rattle.cd_base.specs.Keys.{is_named};
+ghost use Rattle.cd_clause.specs.Dictionary.{is_at_most};
+ghost use Rattle.cd_clause.specs.Elements.{rank, Eligible};
+ghost use Rattle.cd_clause.specs.declared.elem.Elem.TheVariants.{Plain};
+
+use crate::clause::Clause;
+use crate::elem::{Elem, are_at_most};
+use cd_base::{Atom, Normal};
+
+/// Whether the element at place `i` is eligible: no element of the clause is strictly greater in the order of the calculus, in which
+/// named atoms are lowest and not ordered among themselves, other atoms are above them by number, and existentials are above
+/// atoms, by role and then by key.
+///
+/// Linear in the clause and the literals of its keys.
+pub fn eligible(clause: &Clause, i: usize, normal: &Normal) -> bool
+    requires { i < length clause.now }
+    ensures { (result ≡ true) ↔ Eligible normal.now (slice_index_or clause.now i (Plain 0)) clause.now }
+{
+    let elems = clause.elems();
+    let chosen = &elems[i];
+    'elems: for elem in elems {
+        if !is_at_most(elem, chosen, normal) {
+            return false;
+        }
+    }
+    true
+}
+
+/// Whether the atom is a class of the document. Constant time.
+fn is_named(normal: &Normal, atom: Atom) -> bool
+    ensures { result ≡ is_named normal.now atom }
+{
+    match normal.named.items().get(atom.0 as usize) {
+        Some(named) => *named,
+        None => false,
+    }
+}
+
+/// Whether the first element is at most the second in the order of the calculus.
+fn is_at_most(left: &Elem, right: &Elem, normal: &Normal) -> bool
+    ensures { result ≡ is_at_most (rank normal.now left.now) (rank normal.now right.now) }
+{
+    match left {
+        Elem::Plain(a) => match right {
+            Elem::Plain(b) => is_named(normal, *a) || (!is_named(normal, *b) && a.0 <= b.0),
+            Elem::Exist(_, _) => true,
+        },
+        Elem::Exist(r, k) => match right {
+            Elem::Plain(_) => false,
+            Elem::Exist(s, l) => {
+                if r.0 < s.0 {
+                    true
+                } else if r.0 == s.0 {
+                    are_at_most(k.lits(), l.lits())
+                } else {
+                    false
+                }
+            }
+        },
+    }
+}

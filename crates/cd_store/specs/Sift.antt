@@ -1,0 +1,11 @@
+-- The scan that takes the supersets of a new clause out of the live numbers.
+use Rattle.std.specs.Prelude.{ℕ, ◌⊎◌, List, [], slice_index_or}
+use Rattle.cd_base.specs.Lists.{Member, Within}
+use Rattle.cd_clause.specs.declared.elem.Elem.{Elem}
+use Rattle.cd_store.specs.Store.{IsAscending}
+
+-- the numbers that stay where `new` comes
+pub record Sifts (clauses : List (List Elem)) (new : List Elem) (live after : List ℕ) : Type 0 where
+  pub kept : (n : ℕ) → Member n live → Member n after ⊎ Within new (slice_index_or clauses n [])
+  pub only : (n : ℕ) → Member n after → Member n live × (Within new (slice_index_or clauses n []) → ⊥)
+  pub ascends : IsAscending live → IsAscending after
