@@ -1,0 +1,96 @@
+-- One conclusion is added.
+use Rattle.std.proofs.Common.{◌≡◌, ℕ, ◌+◌, ◌<◌, ◌≤◌, inl, inr, List, [], ◌∷◌, ◌++◌, length, refl, ap, sym, ◌∙◌, subst, arith}
+use Rattle.std.proofs.lemmas.List.{append_assoc, append-nil, length-append}
+use Rattle.cd_base.specs.Lists.{Member}
+use Rattle.cd_base.specs.declared.normal.Normal.{Normal}
+use Rattle.cd_base.proofs.Members.{member_get}
+use Rattle.cd_clause.specs.declared.elem.Elem.{Elem}
+use Rattle.cd_rules.specs.Facts.{ConcludesFrom, IsPicked}
+use Rattle.cd_store.specs.Store.{IsNew, IsOutcome}
+use Rattle.cd_store.specs.declared.store.Added.{Added}
+use Rattle.cd_store.specs.declared.store.Added.TheVariants.{New, Held}
+use Rattle.cd_store.proofs.Picks.{picked_in, picked_from}
+use Rattle.cd_context.specs.Justified.{IsInTurn}
+use Rattle.cd_context.specs.TakeUp.{Told, ClosedUpTo, IsTakenFrom, IsPutInto, IsWorking, TakesUpMore, Follows}
+use Rattle.cd_context.proofs.TakeUps.{more_from, out_held, out_new}
+use Rattle.cd_context.proofs.Waits.{working_new, takes_up_new, concluded_more, in_turn_new}
+
+-- clauses are stored after those of before, and of their numbers, those that are live were live
+pub record Continues (old new : List (List Elem) × List ℕ) : Type 0 where
+  pub follows : Follows old.0 new.0
+  pub survivors : (k : ℕ) → Member k new.1 → k < length old.0 → Member k old.1
+
+pub continues_refl : (store : List (List Elem) × List ℕ) → Continues store store
+continues_refl store = record { follows = ([], sym (append-nil store.0)); survivors = λ k m l. m }
+
+follows_longer : (old new : List (List Elem)) → Follows old new → length old ≤ length new
+follows_longer old new f = let l : length new ≡ length old + length f.0 = ap (λ z. length z) f.1 ∙ length-append old f.0 in omega arith
+
+pub continues_trans : (first old new : List (List Elem) × List ℕ) → Continues first old → Continues old new → Continues first new
+continues_trans first old new a b = record {
+  follows = (a.follows.0 ++ b.follows.0, b.follows.1 ∙ ap (λ w. w ++ b.follows.0) a.follows.1 ∙ append_assoc first.0 a.follows.0 b.follows.0);
+  survivors = λ k m l. let x : length first.0 ≤ length old.0 = follows_longer first.0 old.0 a.follows in a.survivors k (b.survivors k m (omega arith)) l;
+}
+
+pub continues_new : (old new : List (List Elem) × List ℕ) (o : List Elem) (k : ℕ) → IsNew old o new k → Continues old new
+continues_new old new o k s = record {
+  follows = (o ∷ [], s.stored);
+  survivors = λ m h l. elim (s.numbers m h) [ inl e ↦ let x = s.next in absurd (omega arith) | inr r ↦ r.0 ];
+}
+
+-- what the loop that adds conclusions keeps: those of `out` are left
+pub record IsAdding (n : Normal) (key : List ℕ) (told : Told) (first : List (List Elem) × List ℕ) (first_waiting : List ℕ) (store : List (List Elem) × List ℕ) (waiting : List ℕ) (out : List (List Elem)) : Type 0 where
+  pub closed : ClosedUpTo n key told store.0 store.1 waiting out
+  pub working : IsWorking n key told store.0 waiting
+  pub concluded : (o : List Elem) → Member o out → ConcludesFrom n key (λ c. Member c store.0) told.backs told.deads o
+  pub takes_up : TakesUpMore first.0 first_waiting store.0 waiting
+  pub continues : Continues first store
+
+module _ (n : Normal) (key : List ℕ) (told : Told) (first : List (List Elem) × List ℕ) (fw : List ℕ) (old : List (List Elem) × List ℕ) (waiting : List ℕ) (items : List (List Elem)) (o : List Elem) (out : List (List Elem))
+    (a : IsAdding n key told first fw old waiting items) (e : items ≡ o ∷ out) (new : List (List Elem) × List ℕ) (added : Added) (t : IsOutcome old o new added) where
+  at : IsAdding n key told first fw old waiting (o ∷ out)
+  at = subst (IsAdding n key told first fw old waiting) e a
+
+  pub add_held : (i : ℕ) → added ≡ Held i → IsAdding n key told first fw new waiting out
+  add_held i q =
+      let h : IsOutcome old o new (Held i) = subst (λ x. IsOutcome old o new x) q t in
+      subst (λ x. IsAdding n key told first fw x waiting out) (sym h.1) record {
+        closed = out_held n key told old.0 old.1 waiting o out at.closed (_, picked_in old.0 old.1 i h.0.isin, h.0.within);
+        working = at.working;
+        concluded = λ x m. at.concluded x (inr m);
+        takes_up = at.takes_up;
+        continues = at.continues;
+      }
+
+  pub add_new : (k : ℕ) → added ≡ New k → (after : List ℕ) → IsPutInto k waiting after → IsAdding n key told first fw new after out
+  add_new k q after p =
+      let h : IsNew old o new k = subst (λ x. IsOutcome old o new x) q t in
+      let c : ConcludesFrom n key (λ x. Member x old.0) told.backs told.deads o = at.concluded o (inl refl) in
+      record {
+        closed = out_new n key told old new waiting after o k out at.closed h p.isin;
+        working = working_new n key told old new waiting after o k at.working c h p;
+        concluded = λ x m. concluded_more n key told old.0 new.0 o x h.stored (at.concluded x (inr m));
+        takes_up = takes_up_new old new waiting after fw first.0 o k h p at.takes_up;
+        continues = continues_trans first old new at.continues (continues_new old new o k h);
+      }
+
+  -- what holds though the number of the new clause could not be put among those that wait
+  pub add_turn : (k : ℕ) → added ≡ New k → IsInTurn n key told.backs told.deads new.0
+  add_turn k q =
+      let h : IsNew old o new k = subst (λ x. IsOutcome old o new x) q t in
+      in_turn_new n key told old new o k at.working.in_turn (at.concluded o (inl refl)) h
+
+  pub add_continues : (k : ℕ) → added ≡ New k → Continues first new
+  add_continues k q =
+      let h : IsNew old o new k = subst (λ x. IsOutcome old o new x) q t in
+      continues_trans first old new at.continues (continues_new old new o k h)
+
+-- what waits loses a number
+pub working_taken : (n : Normal) (key : List ℕ) (told : Told) (clauses : List (List Elem)) (waiting after : List ℕ) (m : ℕ) → IsWorking n key told clauses waiting → IsTakenFrom m waiting after → IsWorking n key told clauses after
+working_taken n key told clauses waiting after m w t = record { in_turn = w.in_turn; in_range = λ i h. w.in_range i (t.after i h); fewer = let x = w.fewer in let y = t.count in omega arith }
+
+-- a conclusion from clauses of numbers in range is one from stored clauses
+pub concluded_of : (n : Normal) (key : List ℕ) (told : Told) (clauses : List (List Elem)) (numbers : List ℕ) (o : List Elem) → ((k : ℕ) → Member k numbers → k < length clauses)
+    → ConcludesFrom n key (IsPicked clauses numbers) told.backs told.deads o → ConcludesFrom n key (λ c. Member c clauses) told.backs told.deads o
+concluded_of n key told clauses numbers o range q = more_from n key told (IsPicked clauses numbers) (λ c. Member c clauses) o
+    (λ c h. let r = picked_from clauses numbers c h in subst (λ x. Member x clauses) (sym r.2) (member_get clauses r.0 [] (range r.0 r.1))) q

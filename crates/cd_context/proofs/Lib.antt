@@ -1,0 +1,17 @@
+pub mod Absorb
+pub mod Adds
+pub mod Appended
+pub mod Found
+pub mod Grown
+pub mod Justify
+pub mod Least
+pub mod LiveClauses
+pub mod Noting
+pub mod Once
+pub mod Owed
+pub mod Sent
+pub mod Survivors
+pub mod TakeUps
+pub mod Ties
+pub mod ToldMore
+pub mod Waits

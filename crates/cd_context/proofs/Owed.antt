@@ -1,0 +1,254 @@
+-- What a context owes, by its clauses, their elements and its links.
+use Rattle.std.proofs.Common.{◌≡◌, ◌⊎◌, ℕ, zero, suc, ◌<◌, ◌≤◌, true, false, List, [], ◌∷◌, ◌++◌, length, filter, get_or, drop, refl, sym, ◌∙◌, ap, subst, inl, inr, arith}
+use Rattle.std.specs.Prelude.{nat_lt}
+use Rattle.std.specs.List.Sorted.{IsNonDecreasingBy, IsPartitionPoint}
+use Rattle.std.proofs.lemmas.Bool.{cases_lt, lt-ltb, ltb-true, ltb-false}
+use Rattle.cd_base.specs.Lists.{Member}
+use Rattle.cd_base.specs.declared.normal.Normal.{Normal}
+use Rattle.cd_base.specs.declared.normal.Triple.{Triple}
+use Rattle.cd_base.proofs.Members.{member_at, member_get, member_right, member_cases}
+use Rattle.cd_clause.specs.declared.elem.Elem.{Elem}
+use Rattle.cd_clause.specs.declared.elem.Elem.TheVariants.{Plain, Exist}
+use Rattle.cd_clause.specs.Elements.{Eligible}
+use Rattle.cd_clause.specs.Numbers.{picked}
+use Rattle.cd_store.specs.Store.{IsAscending}
+use Rattle.cd_store.proofs.Picks.{picked_in, picked_from}
+use Rattle.cd_rules.specs.declared.facts.BackFact.{BackFact}
+use Rattle.cd_rules.specs.declared.facts.DeadFact.{DeadFact}
+use Rattle.cd_context.specs.declared.facts.Fact.TheVariants.{Back}
+use Rattle.cd_context.specs.declared.facts.LinkFact.{LinkFact}
+use Rattle.cd_context.specs.declared.facts.Note.{Note}
+use Rattle.cd_context.specs.Calls.{Sends, ListsOwed}
+use Rattle.cd_context.specs.Noting.{Notes}
+use Rattle.cd_context.specs.Once.{AppendsOnce}
+use Rattle.cd_context.specs.Owes.{Owes, owes_link, owes_back, owes_dead}
+use Rattle.cd_context.specs.Parts.{AreAtAtom, AreFrom, IsUnderOne, IsOfUse, IsLinkNote, IsDeadNote, IsUsefulBack, IsLinkAt, IsBackAt, IsLinkOf, IsToldTo, IsToldBy, IsOwedBy}
+use Rattle.cd_context.specs.State.{State, live_of}
+use Rattle.cd_context.proofs.Found.{filtered_member, member_filtered}
+use Rattle.cd_context.proofs.Noting.{otherwise, OfOne, OfBelow}
+
+-- ---- one element
+
+-- the link of an existential that is eligible
+pub link_at : (n : Normal) (own : List ℕ) (c : List Elem) (i r : ℕ) (k : List ℕ) (Done : Type 0) (old new : List Note)
+    → get_or c i (Plain 0) ≡ Exist r k → Eligible n (get_or c i (Plain 0)) c → Notes (IsLinkNote own r k) Done old new → Notes (IsLinkAt n own c i) Done old new
+link_at n own c i r k Done old new e el a =
+    otherwise (IsLinkNote own r k) (IsLinkAt n own c i) Done Done old new
+    (λ note p. (r, k, e, subst (λ (x : Elem). Eligible n x c) e el, p))
+    (λ h note q. same_link note q.0 q.1 (sym e ∙ q.2) q.4) (λ h. h) a
+  where
+    same_link : (note : Note) (s : ℕ) (l : List ℕ) → Exist r k ≡ Exist s l → IsLinkNote own s l note → IsLinkNote own r k note
+    same_link note s l z p =
+        let role : s ≡ r = cc in
+        let key : l ≡ k = cc in
+        subst (λ (m : List ℕ). IsLinkNote own r m note) key (subst (λ (t : ℕ). IsLinkNote own t l note) role p)
+
+-- the backs of an atom that is eligible
+pub backs_at : (n : Normal) (own : List ℕ) (links : List LinkFact) (c : List Elem) (i a : ℕ) (Done : Type 0) (old new : List Note)
+    → get_or c i (Plain 0) ≡ Plain a → Eligible n (get_or c i (Plain 0)) c → Notes (OfOne (IsUsefulBack n own a) links) Done old new
+    → Notes (IsBackAt n own links c i) Done old new
+backs_at n own links c i a Done old new e el w =
+    otherwise (OfOne (IsUsefulBack n own a) links) (IsBackAt n own links c i) Done Done old new
+    (λ note p. (a, e, subst (λ (x : Elem). Eligible n x c) e el, p))
+    (λ h note q. same_atom note q.0 (sym e ∙ q.1) q.3) (λ h. h) w
+  where
+    same_atom : (note : Note) (b : ℕ) → Plain a ≡ Plain b → OfOne (IsUsefulBack n own b) links note → OfOne (IsUsefulBack n own a) links note
+    same_atom note b z p =
+        let atom : b ≡ a = cc in
+        subst (λ (d : ℕ). OfOne (IsUsefulBack n own d) links note) atom p
+
+-- ---- one link
+
+pub of_use : (n : Normal) (a : ℕ) (axioms : List Triple) (r : ℕ) → AreAtAtom n.n3 a axioms → IsUnderOne n axioms r → IsOfUse n a r
+of_use n a axioms r at u = let w = (at u.0).0 u.1 in (u.0, w.0, w.1, u.2)
+
+pub use_found : (n : Normal) (a : ℕ) (axioms : List Triple) (r : ℕ) → AreAtAtom n.n3 a axioms → IsOfUse n a r → IsUnderOne n axioms r
+use_found n a axioms r at u = (u.0, (at u.0).1 (u.1, u.2), u.3)
+
+-- ---- one clause
+
+-- the links of the places are those of the clause
+pub links_end : (n : Normal) (own : List ℕ) (c : List Elem) (count : ℕ) (Done Done' : Type 0) (old new : List Note) → count ≡ length c → (Done' → Done)
+    → Notes (OfBelow (IsLinkAt n own c) count) Done old new → Notes (IsLinkOf n own c) Done' old new
+links_end n own c count Done Done' old new e d a =
+    otherwise (OfBelow (IsLinkAt n own c) count) (IsLinkOf n own c) Done Done' old new
+    (λ note q. (q.2.0, q.2.1, q.2.3, q.2.4))
+    (λ h note q. let at = member_at (Exist q.0 q.1) c q.2.isin in (at.0, omega (arith, at.1, e), (q.0, q.1, at.2 (Plain 0), q.2, q.3))) d a
+
+-- what the places of a clause tell is what it tells, where it isn't empty
+pub told_end : (n : Normal) (own : List ℕ) (links : List LinkFact) (c : List Elem) (count : ℕ) (Done Done' : Type 0) (old new : List Note) → count ≡ length c → (count ≡ 0 → ⊥) → (Done' → Done)
+    → Notes (OfBelow (IsBackAt n own links c) count) Done old new → Notes (IsToldBy n own links c) Done' old new
+told_end n own links c count Done Done' old new e some d a =
+    otherwise (OfBelow (IsBackAt n own links c) count) (IsToldBy n own links c) Done Done' old new
+    (λ note q. (q.2.3.0, q.2.3.1, inr (q.2.0, q.2.2, q.2.3.2)))
+    (λ h note q. told note q.0 q.1 q.2) d a
+  where
+    told : (note : Note) (f : LinkFact) → Member f links → IsToldTo n own c f note → OfBelow (IsBackAt n own links c) count note
+    told note f m (inl w) = absurd (some (e ∙ ap (λ (l : List Elem). length l) w.0))
+    told note f m (inr w) = let at = member_at (Plain w.0) c w.1.isin in (at.0, omega (arith, at.1, e), (w.0, at.2 (Plain 0), w.1, (f, m, w.2)))
+
+-- an empty clause tells deads
+pub deads_end : (n : Normal) (own : List ℕ) (links : List LinkFact) (c : List Elem) (Done : Type 0) (old new : List Note) → c ≡ []
+    → Notes (OfOne (IsDeadNote own) links) Done old new → Notes (IsToldBy n own links c) Done old new
+deads_end n own links c Done old new e a =
+    otherwise (OfOne (IsDeadNote own) links) (IsToldBy n own links c) Done Done old new
+    (λ note q. (q.0, q.1, inl (e, q.2)))
+    (λ h note q. told note q.0 q.1 q.2) (λ h. h) a
+  where
+    told : (note : Note) (f : LinkFact) → Member f links → IsToldTo n own c f note → OfOne (IsDeadNote own) links note
+    told note f m (inl w) = (f, m, w.1)
+    told note f m (inr w) = absurd (subst (λ (l : List Elem). Member (Plain w.0) l) e w.1.isin)
+
+-- ---- numbers
+
+-- the first of some numbers
+pub first_read : (xs : List ℕ) → 1 ≤ length xs → get_or xs 0 0 ≡ get_or xs 0 (get_or xs 0 0)
+first_read [] l = absurd (omega arith)
+first_read (x ∷ xs) l = refl
+
+-- what stands from a place on, by places
+dropped_member : (xs : List ℕ) (i m : ℕ) → Member m (drop i xs) → (k : ℕ) × (i ≤ k) × (k < length xs) × (get_or xs k 0 ≡ m)
+dropped_member [] zero m h = absurd h
+dropped_member [] (suc i) m h = absurd h
+dropped_member (x ∷ xs) zero m h = let w = member_at m (x ∷ xs) h in (w.0, omega arith, w.1, w.2 0)
+dropped_member (x ∷ xs) (suc i) m h = let w = dropped_member xs i m h in (suc w.0, omega (arith, w.1), omega (arith, w.2), w.3)
+
+member_dropped : (xs : List ℕ) (i k : ℕ) → i ≤ k → k < length xs → Member (get_or xs k 0) (drop i xs)
+member_dropped [] i k l h = absurd (omega arith)
+member_dropped (x ∷ xs) zero k l h = member_get (x ∷ xs) k 0 h
+member_dropped (x ∷ xs) (suc i) zero l h = absurd (omega arith)
+member_dropped (x ∷ xs) (suc i) (suc k) l h = member_dropped xs i k (omega arith) (omega arith)
+
+-- numbers that ascend don't decrease
+pub ascends_by : (xs : List ℕ) → IsAscending xs → IsNonDecreasingBy (λ (k : ℕ). k) xs
+ascends_by [] a i j d l h = absurd (omega arith)
+ascends_by (x ∷ xs) a zero zero d l h = omega arith
+ascends_by (x ∷ xs) a zero (suc j) d l h = let b : x < get_or xs j d = a.0 (get_or xs j d) (member_get xs j d (omega arith)) in omega arith
+ascends_by (x ∷ xs) a (suc i) zero d l h = absurd (omega arith)
+ascends_by (x ∷ xs) a (suc i) (suc j) d l h = ascends_by xs a.1 i j d (omega arith) (omega arith)
+
+-- what stands from the point on where numbers are at least `least`
+pub from_point : (numbers : List ℕ) (least i : ℕ) → IsPartitionPoint (λ (k : ℕ). nat_lt k least ≡ true) (λ (k : ℕ). nat_lt k least ≡ false) numbers i
+    → AreFrom least numbers (drop i numbers)
+from_point numbers least i p m = (
+  λ h. (
+      let w = dropped_member numbers i m h in (
+        subst (λ (k : ℕ). Member k numbers) w.3 (member_get numbers w.0 0 w.2),
+        subst (λ (k : ℕ). least ≤ k) w.3 (ltb-false (get_or numbers w.0 0) least (p.1 w.0 0 w.1 w.2)),
+      )),
+  λ h. (
+      let w = member_at m numbers h.0 in
+      elim (cases_lt w.0 i) [
+        | inl l ↦ (let under : get_or numbers w.0 0 < least = ltb-true (get_or numbers w.0 0) least (p.0 w.0 0 (omega arith) l) in absurd (omega (arith, under, w.2 0, h.1)))
+        | inr g ↦ subst (λ (k : ℕ). Member k (drop i numbers)) (w.2 0) (member_dropped numbers i w.0 g w.1)
+      ]),
+)
+
+-- ---- all clauses
+
+-- what a live clause owes is owed
+pub owed_of_clause : (n : Normal) (s : State) (c : List Elem) → Member c (live_of s) → (note : Note) → IsOwedBy n s.key s.links c note → Owes n s note
+owed_of_clause n s c m note (inl q) = owes_link q.0 q.1 c m q.2 q.3
+owed_of_clause n s c m note (inr q) = told q.0 q.1 q.2
+  where
+    told : (f : LinkFact) → Member f s.links → IsToldTo n s.key c f note → Owes n s note
+    told f l (inl w) = owes_dead f.key f.role l (subst (λ (d : List Elem). Member d (live_of s)) w.0 m) w.1
+    told f l (inr w) =
+        let u : IsOfUse n w.0 f.role = w.2.0 in
+        owes_back f.key f.role c u.0 l m (subst (λ (a : ℕ). Eligible n (Plain a) c) (sym u.2) w.1) u.1 u.3
+        (subst (λ (a : ℕ). note ≡ record { key = f.key; fact = Back f.role s.key a }) (sym u.2) w.2.1)
+
+-- what is owed is owed by a live clause
+pub clause_of_owed : (n : Normal) (s : State) (note : Note) → Owes n s note → (c : List Elem) × Member c (live_of s) × IsOwedBy n s.key s.links c note
+clause_of_owed n s note (owes_link r k c m e q) = (c, m, inl (r, k, e, q))
+clause_of_owed n s note (owes_back h r c t l m e tm u q) = (c, m, inr (record { key = h; role = r }, l, inr (t.atom, e, ((t, tm, refl, u), q))))
+clause_of_owed n s note (owes_dead h r l m q) = ([], m, inr (record { key = h; role = r }, l, inl (refl, q)))
+
+-- what the clauses of these numbers owe
+abbrev pub OwedByOne : Normal → List ℕ → List LinkFact → List (List Elem) → ℕ → Note → Type 0
+OwedByOne n own links clauses k note = IsOwedBy n own links (get_or clauses k []) note
+
+-- what the clauses of these numbers tell
+abbrev pub ToldByOne : Normal → List ℕ → List LinkFact → List (List Elem) → ℕ → Note → Type 0
+ToldByOne n own links clauses k note = IsToldBy n own links (get_or clauses k []) note
+
+module _ (n : Normal) (key : List ℕ) (clauses : List (List Elem)) (live : List ℕ) (backs : List BackFact) (deads : List DeadFact) where
+  -- what is owed from a number on is all that became owed since
+  pub sends_since : (links : List LinkFact) (stored : ℕ) (found : List ℕ) (Done : Type 0) (old new : List Note)
+      → AreFrom stored live found → Notes (OfOne (OwedByOne n key links clauses) found) Done old new
+      → Sends n Done (Owes n (record { key = key; clauses = clauses; live = filter (λ k. nat_lt k stored) live; links = links; backs = backs; deads = deads }))
+      (record { key = key; clauses = clauses; live = live; links = links; backs = backs; deads = deads }) old new
+  sends_since links stored found Done old new from a =
+      let now : State = record { key = key; clauses = clauses; live = live; links = links; backs = backs; deads = deads } in
+      let before : State = record { key = key; clauses = clauses; live = filter (λ k. nat_lt k stored) live; links = links; backs = backs; deads = deads } in
+      record {
+        added = a.added;
+        follows = a.follows;
+        only = λ note m. let p = a.only note m in owed_of_clause n now (get_or clauses p.0 []) (picked_in clauses live p.0 ((from p.0).0 p.1).0) note p.2;
+        every = λ h note o.
+            let w = clause_of_owed n now note o in
+            let r = picked_from clauses live w.0 w.1 in
+            let by : OwedByOne n key links clauses r.0 note = subst (λ (d : List Elem). IsOwedBy n key links d note) r.2 w.2 in
+            elim (cases_lt r.0 stored) [
+              | inl l ↦ inl (owed_of_clause n before (get_or clauses r.0 [])
+                  (picked_in clauses (filter (λ k. nat_lt k stored) live) r.0 (member_filtered (λ k. nat_lt k stored) r.0 live r.1 (lt-ltb r.0 stored l))) note by)
+              | inr g ↦ inr (a.every h note (r.0, (from r.0).1 (r.1, g), by))
+            ];
+      }
+
+  -- what is told to a new link is all that became owed by it
+  pub sends_link : (earlier : List LinkFact) (link : LinkFact) (Done : Type 0) (old new : List Note)
+      → Notes (OfOne (ToldByOne n key (link ∷ []) clauses) live) Done old new
+      → Sends n Done (Owes n (record { key = key; clauses = clauses; live = live; links = earlier; backs = backs; deads = deads }))
+      (record { key = key; clauses = clauses; live = live; links = earlier ++ link ∷ []; backs = backs; deads = deads }) old new
+  sends_link earlier link Done old new a =
+      let now : State = record { key = key; clauses = clauses; live = live; links = earlier ++ link ∷ []; backs = backs; deads = deads } in
+      record {
+        added = a.added;
+        follows = a.follows;
+        only = λ note m.
+            let p = a.only note m in
+            let t = p.2 in
+            owed_of_clause n now (get_or clauses p.0 []) (picked_in clauses live p.0 p.1) note (inr (t.0, member_right t.0 earlier (link ∷ []) t.1, t.2));
+        every = λ h note o. let w = clause_of_owed n now note o in came h note w.0 w.1 w.2;
+      }
+    where
+      before : State
+      before = record { key = key; clauses = clauses; live = live; links = earlier; backs = backs; deads = deads }
+
+      came : Done → (note : Note) (c : List Elem) → Member c (picked clauses live) → IsOwedBy n key (earlier ++ link ∷ []) c note → Owes n before note ⊎ Member note a.added
+      came h note c m (inl q) = inl (owed_of_clause n before c m note (inl q))
+      came h note c m (inr q) = elim (member_cases q.0 earlier (link ∷ []) q.1) [
+        | inl l ↦ inl (owed_of_clause n before c m note (inr (q.0, l, q.2)))
+        | inr l ↦ (
+            let r = picked_from clauses live c m in
+            inr (a.every h note (r.0, r.1, (q.0, l, subst (λ (d : List Elem). IsToldTo n key d q.0 note) r.2 q.2))))
+      ]
+
+-- nothing is owed by clauses with numbers below 0
+pub none_before : (n : Normal) (key : List ℕ) (clauses : List (List Elem)) (live : List ℕ) (links : List LinkFact) (backs : List BackFact) (deads : List DeadFact) (note : Note)
+    → Owes n (record { key = key; clauses = clauses; live = filter (λ k. nat_lt k 0) live; links = links; backs = backs; deads = deads }) note → ⊥
+none_before n key clauses live links backs deads note o =
+    let before : State = record { key = key; clauses = clauses; live = filter (λ k. nat_lt k 0) live; links = links; backs = backs; deads = deads } in
+    let w = clause_of_owed n before note o in
+    let r = picked_from clauses (filter (λ k. nat_lt k 0) live) w.0 w.1 in
+    let low : r.0 < 0 = ltb-true r.0 0 (filtered_member (λ k. nat_lt k 0) r.0 live r.1).1 in
+    omega (arith, low)
+
+-- all that is owed, each once
+pub lists_owed : (n : Normal) (key : List ℕ) (clauses : List (List Elem)) (live : List ℕ) (links : List LinkFact) (backs : List BackFact) (deads : List DeadFact)
+    (owed old new : List Note) (Done : Type 0)
+    → Sends n (true ≡ true) (Owes n (record { key = key; clauses = clauses; live = filter (λ k. nat_lt k 0) live; links = links; backs = backs; deads = deads }))
+    (record { key = key; clauses = clauses; live = live; links = links; backs = backs; deads = deads }) [] owed
+    → AppendsOnce owed Done old new
+    → ListsOwed n Done (record { key = key; clauses = clauses; live = live; links = links; backs = backs; deads = deads }) old new
+lists_owed n key clauses live links backs deads owed old new Done s a = record {
+  added = a.added;
+  follows = a.follows;
+  only = λ note m. s.only note (subst (λ (l : List Note). Member note l) s.follows (a.only note m));
+  once = a.once;
+  every = λ h note o. elim (s.every refl note o) [
+    | inl w ↦ absurd (none_before n key clauses live links backs deads note w)
+    | inr m ↦ a.every h note (subst (λ (l : List Note). Member note l) (sym s.follows) m)
+  ];
+}

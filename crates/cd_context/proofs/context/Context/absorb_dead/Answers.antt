@@ -1,0 +1,76 @@
+use Rattle.std.proofs.Common.{◌≡◌, ◌∷◌, ◌++◌, List, [], length, filter, nat_lt, refl, sym, ◌∙◌, ap, subst}
+use Rattle.cd_base.specs.Lists.{Member}
+use Rattle.cd_clause.specs.Derivations.{Redundant}
+use Rattle.cd_clause.specs.declared.elem.Elem.{Elem}
+use Rattle.cd_rules.specs.Facts.{ConcludesFrom}
+use Rattle.cd_rules.specs.Uses.{FromDead}
+use Rattle.cd_context.specs.FactLists.{ByKind}
+use Rattle.cd_context.specs.declared.facts.Fact.TheVariants.{Dead}
+use Rattle.cd_context.specs.Justified.{Justified, IsContext, ClosedLocally}
+use Rattle.cd_context.proofs.Absorb.{joined, keeps_of, absorbs_of, keeps_dead, absorbs_dead}
+use Rattle.cd_context.proofs.Appended.{appended_only, appended_every}
+use Rattle.cd_context.proofs.Sent.{sends_at}
+use Rattle.cd_context.proofs.ToldMore.{in_turn_told, in_turn_at, closed_at, closed_after_dead, concluded_by_dead}
+use Rattle.cd_context.proofs.context.Context.absorb_dead.Goals as goal
+
+pub on_dead-requires : goal.on_dead-requires
+on_dead-requires c = record { live = rw (c.clauses-clauses.ensures.value, c.live-live.ensures.value) c.live-live.ensures.store.in_range }
+
+pub close_with-requires-clause-closed : goal.close_with-requires-clause-closed
+close_with-requires-clause-closed c =
+    let n = c.args.index.now.normal in
+    let f : (d : List Elem) → FromDead n c.self.inside.key c.self.inside.store.0 c.self.inside.store.1 c.args.dead d → Redundant c.on_dead.new.out.items d
+    = rw (← c.clauses-clauses.ensures.value, ← c.live-live.ensures.value) (appended_every _ _ _ _ c.new-conclusions.ensures.items (c.in_ok-on_dead.ensures c.self.inside.key) refl) in
+    closed_at n c.self.inside.key c.self.inside.facts.backs c.backs-backs.result.now c.deads-deads.result.now c.deads-deads.result.now c.self.inside.store.0 c.self.inside.store.1 [] c.on_dead.new.out.items (sym (c.backs-backs.ensures ∙ ap (λ (r : ByKind). r.backs) c.in_ok-add_dead.ensures.ok)) refl
+    (closed_after_dead n c.self.inside.key c.self.inside.facts.backs c.self.inside.facts.deads c.deads-deads.result.now c.args.dead c.self.inside.store.0 c.self.inside.store.1 c.on_dead.new.out.items ((c.deads-deads.ensures ∙ ap (λ (r : ByKind). r.deads) c.in_ok-add_dead.ensures.ok) ∙ refl) (subst (λ s. ClosedLocally n s) (sym c.self.view_is) c.requires.closed) f)
+
+pub close_with-requires-clause-in_turn : goal.close_with-requires-clause-in_turn
+close_with-requires-clause-in_turn c =
+    let n = c.args.index.now.normal in
+    let kept = subst (λ s. IsContext n s) (sym c.self.view_is) c.requires.context in
+    in_turn_told n c.self.inside.key (record { backs = c.self.inside.facts.backs; deads = c.self.inside.facts.deads }) (record { backs = c.backs-backs.result.now; deads = c.deads-deads.result.now }) c.self.inside.store.0 (λ x m. subst (λ w. Member x w) (sym (c.backs-backs.ensures ∙ ap (λ (r : ByKind). r.backs) c.in_ok-add_dead.ensures.ok)) m) (joined c.self.inside.facts.deads c.deads-deads.result.now c.args.dead ((c.deads-deads.ensures ∙ ap (λ (r : ByKind). r.deads) c.in_ok-add_dead.ensures.ok) ∙ refl)) kept.in_turn
+
+pub close_with-requires-clause-concluded : goal.close_with-requires-clause-concluded
+close_with-requires-clause-concluded c = λ d m.
+    let n = c.args.index.now.normal in
+    let q : FromDead n c.self.inside.key c.self.inside.store.0 c.self.inside.store.1 c.args.dead d
+    = rw (← c.clauses-clauses.ensures.value, ← c.live-live.ensures.value) (appended_only _ _ _ _ c.new-conclusions.ensures.items (c.in_ok-on_dead.ensures c.self.inside.key) d m) in
+    subst (λ w. ConcludesFrom n c.self.inside.key (λ c'. Member c' c.self.inside.store.0) w c.deads-deads.result.now d) (sym (c.backs-backs.ensures ∙ ap (λ (r : ByKind). r.backs) c.in_ok-add_dead.ensures.ok)) (concluded_by_dead n c.self.inside.key c.self.inside.facts.backs c.self.inside.facts.deads c.deads-deads.result.now c.args.dead c.self.inside.store.0 c.self.inside.store.1 ((c.deads-deads.ensures ∙ ap (λ (r : ByKind). r.deads) c.in_ok-add_dead.ensures.ok) ∙ refl) c.live-live.ensures.store.in_range d q)
+
+pub returns-in_err-close_with-clause-keeps : goal.returns-in_err-close_with-clause-keeps
+returns-in_err-close_with-clause-keeps c =
+    let n = c.args.index.now.normal in
+    rw c.in_ok-add_dead.ensures.ok (keeps_of n _ c.args.self.now _ c.self.view_is
+    (keeps_dead n _ c.args.dead (c.self.inside.facts.deads ++ c.args.dead ∷ []) c.close_with.new.store.0 c.close_with.new.store.1 (subst (λ s. IsContext n s) (sym c.self.view_is) c.requires.context) (subst (λ s. Justified n s.key (Dead c.args.dead.role c.args.dead.key)) (sym c.self.view_is) c.requires.justified) refl
+    (in_turn_at n c.self.inside.key c.backs-backs.result.now c.self.inside.facts.backs c.deads-deads.result.now (c.self.inside.facts.deads ++ c.args.dead ∷ []) c.close_with.new.store.0 (c.backs-backs.ensures ∙ ap (λ (r : ByKind). r.backs) c.in_ok-add_dead.ensures.ok) (c.deads-deads.ensures ∙ ap (λ (r : ByKind). r.deads) c.in_ok-add_dead.ensures.ok) c.in_err-close_with.ensures.in_turn) c.in_err-close_with.ensures.store
+    (record { follows = c.in_err-close_with.ensures.follows; survivors = c.in_err-close_with.ensures.survivors })))
+
+pub returns-in_err-send_since-clause-keeps : goal.returns-in_err-send_since-clause-keeps
+returns-in_err-send_since-clause-keeps c =
+    let n = c.args.index.now.normal in
+    rw c.in_ok-add_dead.ensures.ok (keeps_of n _ c.args.self.now _ c.self.view_is
+    (keeps_dead n _ c.args.dead (c.self.inside.facts.deads ++ c.args.dead ∷ []) c.close_with.new.store.0 c.close_with.new.store.1 (subst (λ s. IsContext n s) (sym c.self.view_is) c.requires.context) (subst (λ s. Justified n s.key (Dead c.args.dead.role c.args.dead.key)) (sym c.self.view_is) c.requires.justified) refl
+    (in_turn_at n c.self.inside.key c.backs-backs.result.now c.self.inside.facts.backs c.deads-deads.result.now (c.self.inside.facts.deads ++ c.args.dead ∷ []) c.close_with.new.store.0 (c.backs-backs.ensures ∙ ap (λ (r : ByKind). r.backs) c.in_ok-add_dead.ensures.ok) (c.deads-deads.ensures ∙ ap (λ (r : ByKind). r.deads) c.in_ok-add_dead.ensures.ok) c.in_ok-close_with.ensures.in_turn) c.in_ok-close_with.ensures.store
+    (record { follows = c.in_ok-close_with.ensures.follows; survivors = c.in_ok-close_with.ensures.survivors })))
+
+pub returns-clause-keeps : goal.returns-clause-keeps
+returns-clause-keeps c =
+    let n = c.args.index.now.normal in
+    rw c.in_ok-add_dead.ensures.ok (keeps_of n _ c.args.self.now _ c.self.view_is
+    (keeps_dead n _ c.args.dead (c.self.inside.facts.deads ++ c.args.dead ∷ []) c.close_with.new.store.0 c.close_with.new.store.1 (subst (λ s. IsContext n s) (sym c.self.view_is) c.requires.context) (subst (λ s. Justified n s.key (Dead c.args.dead.role c.args.dead.key)) (sym c.self.view_is) c.requires.justified) refl
+    (in_turn_at n c.self.inside.key c.backs-backs.result.now c.self.inside.facts.backs c.deads-deads.result.now (c.self.inside.facts.deads ++ c.args.dead ∷ []) c.close_with.new.store.0 (c.backs-backs.ensures ∙ ap (λ (r : ByKind). r.backs) c.in_ok-add_dead.ensures.ok) (c.deads-deads.ensures ∙ ap (λ (r : ByKind). r.deads) c.in_ok-add_dead.ensures.ok) c.in_ok-close_with.ensures.in_turn) c.in_ok-close_with.ensures.store
+    (record { follows = c.in_ok-close_with.ensures.follows; survivors = c.in_ok-close_with.ensures.survivors })))
+
+pub returns-clause-ok : goal.returns-clause-ok
+returns-clause-ok c =
+    let n = c.args.index.now.normal in
+    let stored : c.clauses-stored.result.now ≡ c.self.inside.store.0 = c.clauses-stored.ensures.value in
+    rw c.in_ok-add_dead.ensures.ok (absorbs_of n _ c.args.self.now (Dead c.args.dead.role c.args.dead.key) _ c.args.out.now.items c.send_since.new.out.items c.self.view_is
+    (absorbs_dead n _ c.args.dead (c.self.inside.facts.deads ++ c.args.dead ∷ []) c.close_with.new.store.0 c.close_with.new.store.1 (subst (λ s. IsContext n s) (sym c.self.view_is) c.requires.context) (subst (λ s. Justified n s.key (Dead c.args.dead.role c.args.dead.key)) (sym c.self.view_is) c.requires.justified) refl
+    (in_turn_at n c.self.inside.key c.backs-backs.result.now c.self.inside.facts.backs c.deads-deads.result.now (c.self.inside.facts.deads ++ c.args.dead ∷ []) c.close_with.new.store.0 (c.backs-backs.ensures ∙ ap (λ (r : ByKind). r.backs) c.in_ok-add_dead.ensures.ok) (c.deads-deads.ensures ∙ ap (λ (r : ByKind). r.deads) c.in_ok-add_dead.ensures.ok) c.in_ok-close_with.ensures.in_turn) c.in_ok-close_with.ensures.store
+    (record { follows = c.in_ok-close_with.ensures.follows; survivors = c.in_ok-close_with.ensures.survivors })
+    c.args.out.now.items c.send_since.new.out.items (length c.clauses-stored.result.now)
+    (closed_at n c.self.inside.key c.backs-backs.result.now c.self.inside.facts.backs c.deads-deads.result.now (c.self.inside.facts.deads ++ c.args.dead ∷ []) c.close_with.new.store.0 c.close_with.new.store.1 [] [] (c.backs-backs.ensures ∙ ap (λ (r : ByKind). r.backs) c.in_ok-add_dead.ensures.ok) (c.deads-deads.ensures ∙ ap (λ (r : ByKind). r.deads) c.in_ok-add_dead.ensures.ok) c.in_ok-close_with.ensures.closed)
+    (ap (λ z. length z) stored)
+    (sends_at n c.self.inside.key c.close_with.new.store.0 (filter (λ k. nat_lt k (length c.clauses-stored.result.now)) c.close_with.new.store.1) c.close_with.new.store.1 c.links-links.result.now c.self.inside.facts.links c.self.inside.facts.backs (c.self.inside.facts.deads ++ c.args.dead ∷ []) c.args.out.now.items c.send_since.new.out.items
+    (c.links-links.ensures ∙ ap (λ (r : ByKind). r.links) c.in_ok-add_dead.ensures.ok) (c.in_ok-send_since.ensures.ok c.self.inside.facts.backs (c.self.inside.facts.deads ++ c.args.dead ∷ [])))))

@@ -1,0 +1,21 @@
+use Rattle.std.proofs.Common.{◌≡◌, sym, ◌∙◌, subst, get_or, List}
+use Rattle.std.specs.Result.{IsOk}
+use Rattle.std.proofs.lemmas.List.{get_or_read}
+use Rattle.cd_base.specs.declared.normal.Normal.{Normal}
+use Rattle.cd_clause.specs.declared.elem.Elem.{Elem}
+use Rattle.cd_clause.specs.declared.elem.Elem.TheVariants.{Plain, Exist}
+use Rattle.cd_clause.specs.Elements.{Eligible}
+use Rattle.cd_context.proofs.Owed.{link_at}
+use Rattle.cd_context.proofs.notes.note_link_at.Goals as goal
+
+pub returns-then-eligible : goal.returns-then-eligible
+returns-then-eligible c =
+    let clause = c.args.clause.now in
+    let i = c.args.i in
+    let normal = c.args.index.now.normal in
+    let at : get_or clause i (Plain 0) ≡ Exist c.in-Exist.role c.in-Exist.to
+    = subst (λ (l : List Elem). get_or l i (Plain 0) ≡ Exist c.in-Exist.role c.in-Exist.to) c.elems.ensures.elems
+    (sym (get_or_read c.elems.result.now i c.index-elems-i.result (rw c.elems.ensures.elems c.requires) c.index-elems-i.is (Plain 0)) ∙ c.in-Exist.is) in
+    let eligible : Eligible normal (get_or clause i (Plain 0)) clause
+    = subst (λ (n : Normal). Eligible n (get_or clause i (Plain 0)) clause) c.normal.ensures (c.eligible.ensures.0 c.if-eligible.true) in
+    link_at normal c.args.key.now clause i c.in-Exist.role c.in-Exist.to (IsOk c.note_link.result) c.args.out.now.items c.note_link.new.out.items at eligible c.note_link.ensures

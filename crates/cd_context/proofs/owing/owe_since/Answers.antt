@@ -1,0 +1,23 @@
+use Rattle.std.proofs.Common.{ℕ, List, subst}
+use Rattle.std.specs.Result.{IsOk}
+use Rattle.cd_base.specs.Lists.{Member}
+use Rattle.cd_clause.specs.declared.elem.Elem.{Elem}
+use Rattle.cd_context.specs.Noting.{Notes}
+use Rattle.cd_context.specs.Parts.{AreFrom}
+use Rattle.cd_context.proofs.Noting.{OfOne}
+use Rattle.cd_context.proofs.Owed.{sends_since, OwedByOne}
+use Rattle.cd_context.proofs.owing.owe_since.Goals as goal
+
+pub owe_all-requires : goal.owe_all-requires
+owe_all-requires c k m =
+    rw c.clauses.ensures.value (c.live.ensures.store.in_range k (subst (λ (l : List ℕ). Member k l) c.live.ensures.value ((c.since.ensures k).0 m).0))
+
+pub returns : goal.returns
+returns c backs deads =
+    let normal = c.args.index.now.normal in
+    let key = c.args.key.now in
+    let links = c.args.links.now in
+    let found = c.since.result.now in
+    sends_since normal key c.args.store.now.0 c.args.store.now.1 backs deads links c.args.stored found (IsOk c.owe_all.result) c.args.out.now.items c.owe_all.new.out.items
+    (subst (λ (l : List ℕ). AreFrom c.args.stored l found) c.live.ensures.value c.since.ensures)
+    (subst (λ (l : List (List Elem)). Notes (OfOne (OwedByOne normal key links l) found) (IsOk c.owe_all.result) c.args.out.now.items c.owe_all.new.out.items) c.clauses.ensures.value c.owe_all.ensures)

@@ -1,0 +1,37 @@
+-- What the calls of a context come to.
+use Rattle.std.specs.Prelude.{◌≡◌, ℕ, ◌<◌, ◌⊎◌, true, List, [], ◌∷◌, ◌++◌}
+use Rattle.cd_base.specs.Lists.{Member, SameSet, IsApart}
+use Rattle.cd_base.specs.declared.normal.Normal.{Normal}
+use Rattle.cd_clause.specs.declared.elem.Elem.{Elem}
+use Rattle.cd_clause.specs.declared.elem.Elem.TheVariants.{Plain}
+use Rattle.cd_context.specs.declared.facts.Fact.{Fact}
+use Rattle.cd_context.specs.declared.facts.Note.{Note}
+use Rattle.cd_context.specs.Facts.{has_fact, count}
+use Rattle.cd_context.specs.Owes.{Owes}
+use Rattle.cd_context.specs.State.{State}
+
+-- one of the live clauses is that of the atom alone
+abbrev pub IsSingle : List (List Elem) → ℕ → Type 0
+IsSingle live b = (c : List Elem) × Member c live × SameSet c (Plain b ∷ [])
+
+-- the new state has the key, the clauses and the facts of the old one, with more of each or not
+pub record Grows (old new : State) : Type 0 where
+  pub key : new.key ≡ old.key
+  pub clauses : (more : List (List Elem)) × (new.clauses ≡ old.clauses ++ more)
+  pub facts : (f : Fact) → has_fact old f ≡ true → has_fact new f ≡ true
+  pub count : (count old < count new) ⊎ (count new ≡ count old)
+
+-- `new_out` is `out` followed by notes that the new state owes, and where the work was done, by each that became owed
+pub record Sends (n : Normal) (Done : Type 0) (WasOwed : Note → Type 0) (state : State) (out new_out : List Note) : Type 0 where
+  pub added : List Note
+  pub follows : new_out ≡ out ++ added
+  pub only : (note : Note) → Member note added → Owes n state note
+  pub every : Done → (note : Note) → Owes n state note → WasOwed note ⊎ Member note added
+
+-- `new_out` is `out` followed by notes that the state owes, each once, and where the work was done, by all of them
+pub record ListsOwed (n : Normal) (Done : Type 0) (state : State) (out new_out : List Note) : Type 0 where
+  pub added : List Note
+  pub follows : new_out ≡ out ++ added
+  pub only : (note : Note) → Member note added → Owes n state note
+  pub once : IsApart added
+  pub every : Done → (note : Note) → Owes n state note → Member note added

@@ -1,0 +1,55 @@
+-- When a fact may come to a context, and what a context then keeps.
+use Rattle.std.specs.Prelude.{◌≡◌, ℕ, true, List, [], ◌∷◌, reverse}
+use Rattle.cd_base.specs.Lists.{Member}
+use Rattle.cd_base.specs.Keys.{plain, is_named}
+use Rattle.cd_base.specs.declared.normal.Normal.{Normal}
+use Rattle.cd_clause.specs.declared.elem.Elem.{Elem}
+use Rattle.cd_clause.specs.declared.elem.Elem.TheVariants.{Plain, Exist}
+use Rattle.cd_clause.specs.Derivations.{Derived, HasDerived, Reachable, Redundant}
+use Rattle.cd_rules.specs.declared.facts.BackFact.{BackFact}
+use Rattle.cd_rules.specs.declared.facts.DeadFact.{DeadFact}
+use Rattle.cd_rules.specs.Facts.{ConcludesFrom}
+use Rattle.cd_store.specs.Store.{IsStore}
+use Rattle.cd_context.specs.declared.facts.Fact.{Fact}
+use Rattle.cd_context.specs.declared.facts.Fact.TheVariants.{Start, Link, Back, Dead}
+use Rattle.cd_context.specs.declared.facts.Note.{Note}
+use Rattle.cd_context.specs.Owes.{Owes}
+use Rattle.cd_context.specs.State.{State, live_of}
+
+-- the fact is justified in the context of the key
+abbrev pub Justified : Normal → List ℕ → Fact → Type 0
+Justified n key Start = (a : ℕ) × (is_named n a ≡ true) × (key ≡ plain a ∷ [])
+Justified n key (Link h r) = Reachable n h × HasDerived n h (Exist r key)
+Justified n key (Back r k a) = Reachable n key × HasDerived n key (Exist r k) × HasDerived n k (Plain a)
+Justified n key (Dead r k) = Reachable n key × HasDerived n key (Exist r k) × Derived n k []
+
+-- each clause is the conclusion of a rule from those after it and from these facts; the newest stands first
+abbrev pub StoredInTurn : Normal → List ℕ → List BackFact → List DeadFact → List (List Elem) → Type 0
+StoredInTurn n key backs deads [] = Unit {0}
+StoredInTurn n key backs deads (c ∷ cs) = ConcludesFrom n key (λ d. Member d cs) backs deads c × StoredInTurn n key backs deads cs
+
+-- each clause is the conclusion of a rule from clauses stored before it and from these facts
+abbrev pub IsInTurn : Normal → List ℕ → List BackFact → List DeadFact → List (List Elem) → Type 0
+IsInTurn n key backs deads clauses = StoredInTurn n key backs deads (reverse clauses)
+
+-- what a context keeps at every moment, also after want of memory: it can be reached, each fact but `Start` is justified, each clause is
+-- concluded from what was there before it, and none contains one stored before it
+pub record IsContext (n : Normal) (s : State) : Type 0 where
+  pub reachable : Reachable n s.key
+  pub links : (h : List ℕ) (r : ℕ) → Member (record { key = h; role = r }) s.links → Justified n s.key (Link h r)
+  pub backs : (r : ℕ) (k : List ℕ) (a : ℕ) → Member (record { role = r; key = k; atom = a }) s.backs → Justified n s.key (Back r k a)
+  pub deads : (r : ℕ) (k : List ℕ) → Member (record { role = r; key = k }) s.deads → Justified n s.key (Dead r k)
+  pub in_turn : IsInTurn n s.key s.backs s.deads s.clauses
+  pub store : IsStore s.clauses s.live
+
+-- each conclusion from its live clauses and its facts is redundant there
+abbrev pub ClosedLocally : Normal → State → Type 0
+ClosedLocally n s = (d : List Elem) → ConcludesFrom n s.key (λ c. Member c (live_of s)) s.backs s.deads d → Redundant (live_of s) d
+
+-- what a context stores is derived
+abbrev pub StoredDerived : Type 0
+StoredDerived = (n : Normal) (s : State) → IsContext n s → (c : List Elem) → Member c s.clauses → Derived n s.key c
+
+-- what a context owes goes to a key that can be reached, and is justified there
+abbrev pub OwedJustified : Type 0
+OwedJustified = (n : Normal) (s : State) → IsContext n s → (note : Note) → Owes n s note → Reachable n note.key × Justified n note.key note.fact

@@ -1,0 +1,14 @@
+pub mod Absorbing
+pub mod Calls
+pub mod FactLists
+pub mod FactWrites
+pub mod Facts
+pub mod Justified
+pub mod Noting
+pub mod Once
+pub mod Only
+pub mod Owes
+pub mod Parts
+pub mod State
+pub mod TakeUp
+pub mod Waits

@@ -1,0 +1,51 @@
+-- The loop that closes a context: stored clauses wait to be taken up as premises.
+use Rattle.std.specs.Prelude.{◌≡◌, ℕ, ◌+◌, ◌-◌, ◌<◌, ◌≤◌, ◌⊎◌, List, [], ◌++◌, length, slice_index_or}
+use Rattle.cd_base.specs.Lists.{Member}
+use Rattle.cd_base.specs.declared.normal.Normal.{Normal}
+use Rattle.cd_clause.specs.declared.elem.Elem.{Elem}
+use Rattle.cd_clause.specs.Derivations.{Redundant}
+use Rattle.cd_clause.specs.Numbers.{picked}
+use Rattle.cd_rules.specs.declared.facts.BackFact.{BackFact}
+use Rattle.cd_rules.specs.declared.facts.DeadFact.{DeadFact}
+use Rattle.cd_rules.specs.Facts.{ConcludesFrom}
+use Rattle.cd_context.specs.Justified.{IsInTurn}
+
+-- what a context was told of the contexts of its existentials
+pub record Told : Type 0 where
+  pub backs : List BackFact
+  pub deads : List DeadFact
+
+-- a live clause that doesn't wait any more
+abbrev pub IsTakenUp : List (List Elem) → List ℕ → List ℕ → List Elem → Type 0
+IsTakenUp clauses live waiting c = (k : ℕ) × Member k live × (Member k waiting → ⊥) × (c ≡ slice_index_or clauses k [])
+
+-- each conclusion from clauses that were taken up is redundant, or is to be added yet
+abbrev pub ClosedUpTo : Normal → List ℕ → Told → List (List Elem) → List ℕ → List ℕ → List (List Elem) → Type 0
+ClosedUpTo n key told clauses live waiting out =
+    (d : List Elem) → ConcludesFrom n key (IsTakenUp clauses live waiting) told.backs told.deads d → Redundant (picked clauses live) d ⊎ Redundant out d
+
+-- one of the numbers that wait is no longer there
+pub record IsTakenFrom (n : ℕ) (old new : List ℕ) : Type 0 where
+  pub before : (m : ℕ) → Member m old → (m ≡ n) ⊎ Member m new
+  pub after : (m : ℕ) → Member m new → Member m old
+  pub count : length old ≡ length new + 1
+
+-- one number more waits
+pub record IsPutInto (n : ℕ) (old new : List ℕ) : Type 0 where
+  pub isin : (m : ℕ) → (m ≡ n) ⊎ Member m old → Member m new
+  pub only : (m : ℕ) → Member m new → (m ≡ n) ⊎ Member m old
+  pub count : length new ≡ length old + 1
+
+-- clauses are stored in turn, and those that wait are stored
+pub record IsWorking (n : Normal) (key : List ℕ) (told : Told) (clauses : List (List Elem)) (waiting : List ℕ) : Type 0 where
+  pub in_turn : IsInTurn n key told.backs told.deads clauses
+  pub in_range : (m : ℕ) → Member m waiting → m < length clauses
+  pub fewer : length waiting ≤ length clauses
+
+-- no fewer clauses were taken up than before
+abbrev pub TakesUpMore : List (List Elem) → List ℕ → List (List Elem) → List ℕ → Type 0
+TakesUpMore clauses waiting clauses_new waiting_new = length clauses - length waiting ≤ length clauses_new - length waiting_new
+
+-- the clauses are those of before, with more of them or not
+abbrev pub Follows : List (List Elem) → List (List Elem) → Type 0
+Follows old new = (more : List (List Elem)) × (new ≡ old ++ more)

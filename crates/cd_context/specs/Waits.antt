@@ -1,0 +1,15 @@
+-- What waits: pairs of how many elements a clause has and its number.
+use Rattle.std.specs.Prelude.{◌≡◌, ℕ, ◌<◌, ◌≤◌, ◌⊎◌, List, ◌∷◌, map, IsPermutation}
+use Rattle.cd_base.specs.Lists.{Member}
+use Rattle.cd_context.specs.TakeUp.{IsTakenFrom}
+
+-- the numbers that wait
+abbrev pub numbers : List (ℕ × ℕ) → List ℕ
+numbers pairs = map (λ p. p.1) pairs
+
+-- the clause of this number was taken, which has the fewest elements, and of those that have as few the least number
+pub record IsLeastTaken (number : ℕ) (old new : List (ℕ × ℕ)) : Type 0 where
+  pub elements : ℕ
+  pub rest : IsPermutation old ((elements, number) ∷ new)
+  pub least : (p : ℕ × ℕ) → Member p old → (elements < p.0) ⊎ ((elements ≡ p.0) × (number ≤ p.1))
+  pub taken : IsTakenFrom number (numbers old) (numbers new)

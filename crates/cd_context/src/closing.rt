@@ -1,0 +1,159 @@
+//! Closing a context under its rules.
+ghost use Rattle.std.specs.Prelude.{◌≡◌, ◌<◌, ◌↔◌, ℕ, [], List, length, true, OnOk};
+ghost use Rattle.cd_base.specs.Lists.{Member};
+ghost use Rattle.cd_clause.specs.declared.elem.Elem.{Elem};
+ghost use Rattle.cd_rules.specs.Facts.{ConcludesFrom};
+ghost use Rattle.cd_store.specs.Store.{IsAscending, IsStore};
+ghost use Rattle.cd_context.specs.Justified.{IsInTurn};
+ghost use Rattle.cd_context.specs.TakeUp.{ClosedUpTo, IsWorking, TakesUpMore, Follows};
+ghost use Rattle.cd_context.specs.Waits.{numbers};
+
+use crate::waiting::Waiting;
+use cd_base::{Key, Memory};
+use cd_clause::Clause;
+use cd_index::Index;
+use cd_rules::{BackFact, DeadFact, on_clause};
+use cd_store::{Added, Store};
+use std::alloc::Global;
+
+/// Adds the conclusions to a store that is closed but for them, and closes it again.
+///
+/// The cost is that of adding each conclusion and of the rules for each clause that is taken up. After `Memory` the store has all that
+/// it had, and each of its clauses is concluded from those before it.
+pub(crate) fn close_with(
+    alloc: Global,
+    index: &Index,
+    key: &Key,
+    backs: &[BackFact],
+    deads: &[DeadFact],
+    store: &mut Store,
+    conclusions: Vec<Clause>,
+) -> Result<(), Memory>
+    requires closed { ClosedUpTo index.now.normal key.now (record { backs = backs.now; deads = deads.now }) store.old.0 store.old.1 [] conclusions.items }
+    requires in_turn { IsInTurn index.now.normal key.now backs.now deads.now store.old.0 }
+    requires concluded { (d : List Elem) → Member d conclusions.items → ConcludesFrom index.now.normal key.now (λ c. Member c store.old.0) backs.now deads.now d }
+    ensures closed { OnOk result (ClosedUpTo index.now.normal key.now (record { backs = backs.now; deads = deads.now }) store.new.0 store.new.1 [] []) }
+    ensures in_turn { IsInTurn index.now.normal key.now backs.now deads.now store.new.0 }
+    ensures store { IsStore store.new.0 store.new.1 }
+    ensures follows { Follows store.old.0 store.new.0 }
+    ensures survivors { (k : ℕ) → Member k store.new.1 → k < length store.old.0 → Member k store.old.1 }
+{
+    let done = add_and_close(alloc, index, key, backs, deads, store, conclusions);
+    // what every store keeps is said where its live numbers are lent
+    let _live = store.live();
+    done
+}
+
+/// Adds the conclusions, and takes up those that were new, and what comes of them. The cost is that of both.
+fn add_and_close(
+    alloc: Global,
+    index: &Index,
+    key: &Key,
+    backs: &[BackFact],
+    deads: &[DeadFact],
+    store: &mut Store,
+    conclusions: Vec<Clause>,
+) -> Result<(), Memory>
+    requires closed { ClosedUpTo index.now.normal key.now (record { backs = backs.now; deads = deads.now }) store.old.0 store.old.1 [] conclusions.items }
+    requires in_turn { IsInTurn index.now.normal key.now backs.now deads.now store.old.0 }
+    requires concluded { (d : List Elem) → Member d conclusions.items → ConcludesFrom index.now.normal key.now (λ c. Member c store.old.0) backs.now deads.now d }
+    ensures closed { OnOk result (ClosedUpTo index.now.normal key.now (record { backs = backs.now; deads = deads.now }) store.new.0 store.new.1 [] []) }
+    ensures in_turn { IsInTurn index.now.normal key.now backs.now deads.now store.new.0 }
+    ensures follows { Follows store.old.0 store.new.0 }
+    ensures survivors { (k : ℕ) → Member k store.new.1 → k < length store.old.0 → Member k store.old.1 }
+{
+    let mut waiting = Waiting::new(alloc);
+    add_all(
+        alloc,
+        index,
+        key,
+        backs,
+        deads,
+        store,
+        &mut waiting,
+        conclusions,
+    )?;
+    close(alloc, index, key, backs, deads, store, &mut waiting)
+}
+
+/// Adds the conclusions. Those that are new wait. The cost is that of adding each to the store.
+fn add_all(
+    alloc: Global,
+    index: &Index,
+    key: &Key,
+    backs: &[BackFact],
+    deads: &[DeadFact],
+    store: &mut Store,
+    waiting: &mut Waiting,
+    conclusions: Vec<Clause>,
+) -> Result<(), Memory>
+    requires closed { ClosedUpTo index.now.normal key.now (record { backs = backs.now; deads = deads.now }) store.old.0 store.old.1 (numbers waiting.old) conclusions.items }
+    requires working { IsWorking index.now.normal key.now (record { backs = backs.now; deads = deads.now }) store.old.0 (numbers waiting.old) }
+    requires concluded { (d : List Elem) → Member d conclusions.items → ConcludesFrom index.now.normal key.now (λ c. Member c store.old.0) backs.now deads.now d }
+    ensures closed { OnOk result (ClosedUpTo index.now.normal key.now (record { backs = backs.now; deads = deads.now }) store.new.0 store.new.1 (numbers waiting.new) []) }
+    ensures working { OnOk result (IsWorking index.now.normal key.now (record { backs = backs.now; deads = deads.now }) store.new.0 (numbers waiting.new)) }
+    ensures in_turn { IsInTurn index.now.normal key.now backs.now deads.now store.new.0 }
+    ensures follows { Follows store.old.0 store.new.0 }
+    ensures survivors { (k : ℕ) → Member k store.new.1 → k < length store.old.0 → Member k store.old.1 }
+    ensures takes_up { OnOk result (TakesUpMore store.old.0 (numbers waiting.old) store.new.0 (numbers waiting.new)) }
+{
+    'conclusions: for conclusion in conclusions {
+        let elements = conclusion.elems().len();
+        match store.add(alloc, conclusion)? {
+            Added::Held(_) => {}
+            Added::New(number) => waiting.put(elements, number)?,
+        }
+    }
+    Ok(())
+}
+
+/// Takes up what waits, the shortest first, until every conclusion is redundant. A clause that died while it waited is skipped. Each
+/// clause that is taken up costs what the rules cost for it.
+fn close(
+    alloc: Global,
+    index: &Index,
+    key: &Key,
+    backs: &[BackFact],
+    deads: &[DeadFact],
+    store: &mut Store,
+    waiting: &mut Waiting,
+) -> Result<(), Memory>
+    requires closed { ClosedUpTo index.now.normal key.now (record { backs = backs.now; deads = deads.now }) store.old.0 store.old.1 (numbers waiting.old) [] }
+    requires working { IsWorking index.now.normal key.now (record { backs = backs.now; deads = deads.now }) store.old.0 (numbers waiting.old) }
+    ensures closed { OnOk result (ClosedUpTo index.now.normal key.now (record { backs = backs.now; deads = deads.now }) store.new.0 store.new.1 [] []) }
+    ensures in_turn { IsInTurn index.now.normal key.now backs.now deads.now store.new.0 }
+    ensures follows { Follows store.old.0 store.new.0 }
+    ensures survivors { (k : ℕ) → Member k store.new.1 → k < length store.old.0 → Member k store.old.1 }
+{
+    'turns: while let Some(number) = waiting.take() {
+        // the number of clauses fits, and so bounds the turns: each has one more taken up
+        let _stored = store.clauses().len();
+        if !is_among(store.live(), number) {
+            continue;
+        }
+        let mut conclusions = Vec::new(alloc);
+        let clauses = store.clauses();
+        let live = store.live();
+        on_clause(
+            alloc,
+            index,
+            key,
+            clauses,
+            live,
+            number,
+            backs,
+            deads,
+            &mut conclusions,
+        )?;
+        add_all(alloc, index, key, backs, deads, store, waiting, conclusions)?;
+    }
+    Ok(())
+}
+
+/// Whether the number is one of these, which ascend. Logarithmic in them.
+fn is_among(live: &[usize], number: usize) -> bool
+    requires { IsAscending live.now }
+    ensures { (result ≡ true) ↔ Member number live.now }
+{
+    live.binary_search(&number).is_ok()
+}

@@ -1,0 +1,265 @@
+//! A context.
+ghost use Rattle.std.specs.Prelude.{◌≡◌, ◌↔◌, ◌<◌, ◌⊎◌, ℕ, [], List, true, false, IsOk, IfOk, OnOk, OnErr};
+ghost use Rattle.cd_base.specs.Lists.{Member};
+ghost use Rattle.cd_clause.specs.Derivations.{Reachable};
+ghost use Rattle.cd_context.specs.Absorbing.{Keeps, Absorbs};
+ghost use Rattle.cd_context.specs.Calls.{IsSingle, Grows, Sends, ListsOwed};
+ghost use Rattle.cd_context.specs.Facts.{has_fact, count, last};
+ghost use Rattle.cd_context.specs.Justified.{Justified, IsContext, ClosedLocally};
+ghost use Rattle.cd_context.specs.Owes.{Owes};
+ghost use Rattle.cd_context.specs.State.{State, live_of};
+ghost use Rattle.cd_context.specs.declared.facts.Fact.TheVariants.{Link, Back, Dead};
+
+use crate::closing::close_with;
+use crate::distinct::append_distinct;
+use crate::fact_lists::FactLists;
+use crate::facts::{Fact, LinkFact, Note};
+use crate::live::{has_empty, has_single};
+use crate::owing::{owe_link, owe_since};
+use crate::sending::send_since;
+use cd_base::{Atom, Key, Memory};
+use cd_index::Index;
+use cd_rules::{BackFact, DeadFact, on_back, on_dead, on_key};
+use cd_store::Store;
+use std::alloc::Global;
+use std::marker::Model;
+
+/// The clauses of a key, closed under the rules, and what the context was told. Contracts see its `State`.
+#[derive(Debug, Drop)]
+pub struct Context {
+    key: Key,
+    store: Store,
+    facts: FactLists,
+}
+
+impl Model for Context {
+    ghost use Rattle.cd_context.specs.State.{State};
+
+    ghost Value = { State };
+
+    ghost view = { λ c. record { key = c.key; clauses = c.store.0; live = c.store.1; links = c.facts.links; backs = c.facts.backs; deads = c.facts.deads } };
+}
+
+impl Context {
+    /// The context of a key, closed under the rules, with no fact but `Start`. What it owes is appended to `out`.
+    ///
+    /// The cost is that of the rules for each clause that is taken up. After `Memory` nothing was appended.
+    pub fn begin(
+        alloc: Global,
+        key: Key,
+        index: &Index,
+        out: &mut Vec<Note>,
+    ) -> Result<Context, Memory>
+        requires { Reachable index.now.normal key }
+        ensures context { IfOk result (λ c. IsContext index.now.normal c) }
+        ensures closed { IfOk result (λ c. ClosedLocally index.now.normal c) }
+        ensures key { IfOk result (λ c. c.key ≡ key) }
+        ensures facts { IfOk result (λ c. (c.links ≡ []) × (c.backs ≡ []) × (c.deads ≡ [])) }
+        ensures sends { IfOk result (λ c. Sends index.now.normal (Unit {0}) (λ note. ⊥) c out.old.items out.new.items) }
+        ensures err { OnErr result (out.new.items ≡ out.old.items) }
+    {
+        let mut store = Store::new(alloc);
+        let facts = FactLists::new(alloc);
+        let mut conclusions = Vec::new(alloc);
+        on_key(alloc, index, &key, &mut conclusions)?;
+        let backs = facts.backs();
+        let deads = facts.deads();
+        close_with(alloc, index, &key, backs, deads, &mut store, conclusions)?;
+        let links = facts.links();
+        send_since(alloc, index, &key, &store, links, 0, out)?;
+        Ok(Context { key, store, facts })
+    }
+
+    /// Takes a fact. The context is closed again, and what it came to owe is appended to `out`. A fact that it has changes nothing.
+    ///
+    /// The cost is one look-up, and that of the rules for each clause that is taken up. After `Memory` nothing was appended, the context
+    /// keeps all that it had, with the fact or without it, and may take no further fact.
+    pub fn absorb(
+        &mut self,
+        alloc: Global,
+        fact: Fact,
+        index: &Index,
+        out: &mut Vec<Note>,
+    ) -> Result<(), Memory>
+        requires context { IsContext index.now.normal self.old }
+        requires closed { ClosedLocally index.now.normal self.old }
+        requires justified { Justified index.now.normal self.old.key fact }
+        ensures context { IsContext index.now.normal self.new }
+        ensures grows { Grows self.old self.new }
+        ensures closed { OnOk result (ClosedLocally index.now.normal self.new) }
+        ensures had { OnOk result (has_fact self.new fact ≡ true) }
+        ensures risen { OnOk result (has_fact self.old fact ≡ false → (count self.old < count self.new) ⊎ (count self.new ≡ last)) }
+        ensures sends { OnOk result (Sends index.now.normal (Unit {0}) (Owes index.now.normal self.old) self.new out.old.items out.new.items) }
+        ensures err { OnErr result (out.new.items ≡ out.old.items) }
+        ensures again { has_fact self.old fact ≡ true → (self.new ≡ self.old) × (out.new.items ≡ out.old.items) }
+    {
+        if self.has(&fact) {
+            return Ok(());
+        }
+        match fact {
+            // every context has it, so this arm isn't reached
+            Fact::Start => Ok(()),
+            Fact::Link(key, role) => self.absorb_link(alloc, LinkFact { key, role }, index, out),
+            Fact::Back(role, key, atom) => {
+                self.absorb_back(alloc, BackFact { role, key, atom }, index, out)
+            }
+            Fact::Dead(role, key) => self.absorb_dead(alloc, DeadFact { role, key }, index, out),
+        }
+    }
+
+    /// Takes a link that it didn't have, and appends what it owes there.
+    ///
+    /// Linear in the live clauses. After `Memory` nothing was appended, and it has the link or not.
+    fn absorb_link(
+        &mut self,
+        alloc: Global,
+        link: LinkFact,
+        index: &Index,
+        out: &mut Vec<Note>,
+    ) -> Result<(), Memory>
+        requires context { IsContext index.now.normal self.old }
+        requires closed { ClosedLocally index.now.normal self.old }
+        requires justified { Justified index.now.normal self.old.key (Link link.key link.role) }
+        requires fresh { has_fact self.old (Link link.key link.role) ≡ false }
+        ensures keeps { Keeps index.now.normal self.old self.new }
+        ensures ok { OnOk result (Absorbs index.now.normal self.old (Link link.key link.role) self.new out.old.items out.new.items) }
+        ensures err { OnErr result (out.new.items ≡ out.old.items) }
+    {
+        let mut notes = Vec::new(alloc);
+        owe_link(alloc, index, &self.key, &self.store, &link, &mut notes)?;
+        self.facts.add_link(link)?;
+        out.append(&mut notes)?;
+        Ok(())
+    }
+
+    /// Takes a back that it didn't have, closes again, and appends what it came to owe.
+    ///
+    /// Linear in the live clauses, with the rules for each clause that is taken up. After `Memory` nothing was appended, and it has the
+    /// back or not.
+    fn absorb_back(
+        &mut self,
+        alloc: Global,
+        back: BackFact,
+        index: &Index,
+        out: &mut Vec<Note>,
+    ) -> Result<(), Memory>
+        requires context { IsContext index.now.normal self.old }
+        requires closed { ClosedLocally index.now.normal self.old }
+        requires justified { Justified index.now.normal self.old.key (Back back.role back.key back.atom) }
+        requires fresh { has_fact self.old (Back back.role back.key back.atom) ≡ false }
+        ensures keeps { Keeps index.now.normal self.old self.new }
+        ensures ok { OnOk result (Absorbs index.now.normal self.old (Back back.role back.key back.atom) self.new out.old.items out.new.items) }
+        ensures err { OnErr result (out.new.items ≡ out.old.items) }
+    {
+        let stored = self.store.clauses().len();
+        let mut conclusions = Vec::new(alloc);
+        let clauses = self.store.clauses();
+        let live = self.store.live();
+        on_back(index, clauses, live, &back, &mut conclusions)?;
+        self.facts.add_back(back)?;
+        let backs = self.facts.backs();
+        let deads = self.facts.deads();
+        close_with(
+            alloc,
+            index,
+            &self.key,
+            backs,
+            deads,
+            &mut self.store,
+            conclusions,
+        )?;
+        let links = self.facts.links();
+        send_since(alloc, index, &self.key, &self.store, links, stored, out)?;
+        Ok(())
+    }
+
+    /// Takes a dead that it didn't have, closes again, and appends what it came to owe.
+    ///
+    /// Linear in the live clauses, with the rules for each clause that is taken up. After `Memory` nothing was appended, and it has the
+    /// dead or not.
+    fn absorb_dead(
+        &mut self,
+        alloc: Global,
+        dead: DeadFact,
+        index: &Index,
+        out: &mut Vec<Note>,
+    ) -> Result<(), Memory>
+        requires context { IsContext index.now.normal self.old }
+        requires closed { ClosedLocally index.now.normal self.old }
+        requires justified { Justified index.now.normal self.old.key (Dead dead.role dead.key) }
+        requires fresh { has_fact self.old (Dead dead.role dead.key) ≡ false }
+        ensures keeps { Keeps index.now.normal self.old self.new }
+        ensures ok { OnOk result (Absorbs index.now.normal self.old (Dead dead.role dead.key) self.new out.old.items out.new.items) }
+        ensures err { OnErr result (out.new.items ≡ out.old.items) }
+    {
+        let stored = self.store.clauses().len();
+        let mut conclusions = Vec::new(alloc);
+        let clauses = self.store.clauses();
+        let live = self.store.live();
+        on_dead(index, clauses, live, &dead, &mut conclusions)?;
+        self.facts.add_dead(dead)?;
+        let backs = self.facts.backs();
+        let deads = self.facts.deads();
+        close_with(
+            alloc,
+            index,
+            &self.key,
+            backs,
+            deads,
+            &mut self.store,
+            conclusions,
+        )?;
+        let links = self.facts.links();
+        send_since(alloc, index, &self.key, &self.store, links, stored, out)?;
+        Ok(())
+    }
+
+    /// Its key, lent. Constant time.
+    pub fn key(&self) -> &Key
+        ensures { result.now ≡ self.now.key }
+    {
+        &self.key
+    }
+
+    /// Whether it has the fact. Every context has `Start`. One look-up.
+    pub fn has(&self, fact: &Fact) -> bool
+        ensures { result ≡ has_fact self.now fact.now }
+    {
+        self.facts.has(fact)
+    }
+
+    /// How many clauses it has stored, live or dead, with its links, backs and deads. Constant time.
+    pub fn facts(&self) -> u64
+        ensures { result ≡ count self.now }
+    {
+        let clauses = self.store.clauses().len() as u64;
+        let links = self.facts.links().len() as u64;
+        let backs = self.facts.backs().len() as u64;
+        let deads = self.facts.deads().len() as u64;
+        clauses.saturating_add(links.saturating_add(backs.saturating_add(deads)))
+    }
+
+    /// Whether the empty clause is live. Constant time: where it is, it is the last one that was stored.
+    pub fn has_empty(&self) -> bool
+        ensures { (result ≡ true) ↔ Member [] (live_of self.now) }
+    {
+        has_empty(self.store.clauses(), self.store.live())
+    }
+
+    /// Whether the clause of this atom alone is live. Linear in the live clauses.
+    pub fn has_single(&self, atom: Atom) -> bool
+        ensures { (result ≡ true) ↔ IsSingle (live_of self.now) atom }
+    {
+        has_single(self.store.clauses(), self.store.live(), atom)
+    }
+
+    /// Appends all that it owes to others, each once. Linear in the live clauses times the links, with a look-up each.
+    pub fn list_owed(&self, alloc: Global, index: &Index, out: &mut Vec<Note>) -> Result<(), Memory>
+        ensures { ListsOwed index.now.normal (IsOk result) self.now out.old.items out.new.items }
+    {
+        let mut owed = Vec::new(alloc);
+        let links = self.facts.links();
+        owe_since(alloc, index, &self.key, &self.store, links, 0, &mut owed)?;
+        append_distinct(alloc, owed, out)
+    }
+}

@@ -1,0 +1,35 @@
+//! One context: the clauses of a key, closed under the rules, and what it owes to other contexts.
+//!
+//! A context is begun with its key and takes facts from other contexts, one at a time. Each time it takes up the clauses that wait, the
+//! shortest first, until every conclusion is redundant (`closing`), and then says what it came to owe (`owing`). It never looks at another
+//! context: what it is told of them is its facts.
+#![tactic(auto)]
+
+ghost use Rattle.cd_context.specs.Justified.{StoredDerived, OwedJustified};
+
+mod closing;
+mod context;
+mod distinct;
+mod fact_lists;
+mod facts;
+mod live;
+mod look_ups;
+mod notes;
+mod owing;
+mod sending;
+#[cfg(test)]
+mod tests;
+mod waiting;
+
+pub use context::Context;
+pub use facts::{Fact, LinkFact, Note};
+
+/// Whatever a context stores is derived for its key.
+pub fn stored_is_derived()
+    ensures { StoredDerived }
+{}
+
+/// Whatever a context owes goes to a key that can be reached, and is justified in its context.
+pub fn owed_is_justified()
+    ensures { OwedJustified }
+{}

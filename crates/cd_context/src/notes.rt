@@ -1,0 +1,197 @@
+//! The notes that one clause makes: a link for each existential that is eligible, and for each context that has an existential to this
+//! one a back for each atom that is eligible and of use there, or a dead where the clause is empty.
+ghost use Rattle.std.specs.Prelude.{◌≡◌, ◌↔◌, ◌<◌, length, true, IsOk};
+ghost use Rattle.cd_base.specs.Lists.{Member};
+ghost use Rattle.cd_context.specs.Noting.{Notes};
+ghost use Rattle.cd_context.specs.Parts.{AreAtAtom, IsUnderOne, IsLinkNote, IsBackNote, IsDeadNote, IsUsefulBack, IsLinkAt, IsBackAt, IsLinkOf, IsToldBy};
+ghost use Rattle.cd_context.specs.declared.facts.LinkFact.{LinkFact};
+
+use crate::facts::{Fact, LinkFact, Note};
+use crate::look_ups::{backs_of, is_under};
+use cd_base::{Atom, Key, Memory, Role, Triple};
+use cd_clause::{Clause, Elem, eligible};
+use cd_index::Index;
+
+/// Appends a link for each existential of the clause that is eligible. Linear in the clause, each time once more for an existential.
+pub(crate) fn note_links(
+    index: &Index,
+    key: &Key,
+    clause: &Clause,
+    out: &mut Vec<Note>,
+) -> Result<(), Memory>
+    ensures { Notes (IsLinkOf index.now.normal key.now clause.now) (IsOk result) out.old.items out.new.items }
+{
+    let count = clause.elems().len();
+    'places: for i in 0..count {
+        note_link_at(index, key, clause, i, out)?;
+    }
+    Ok(())
+}
+
+/// Appends a link where the element at place `i` is an existential that is eligible. Linear in the clause.
+fn note_link_at(
+    index: &Index,
+    key: &Key,
+    clause: &Clause,
+    i: usize,
+    out: &mut Vec<Note>,
+) -> Result<(), Memory>
+    requires { i < length clause.now }
+    ensures { Notes (IsLinkAt index.now.normal key.now clause.now i) (IsOk result) out.old.items out.new.items }
+{
+    match &clause.elems()[i] {
+        Elem::Plain(_) => Ok(()),
+        Elem::Exist(role, to) => {
+            if eligible(clause, i, index.normal()) {
+                note_link(key, *role, to, out)
+            } else {
+                Ok(())
+            }
+        }
+    }
+}
+
+/// Appends the link to the context of the key `to`. Linear in both keys.
+fn note_link(key: &Key, role: Role, to: &Key, out: &mut Vec<Note>) -> Result<(), Memory>
+    ensures { Notes (IsLinkNote key.now role to.now) (IsOk result) out.old.items out.new.items }
+{
+    out.push(Note {
+        key: to.copy()?,
+        fact: Fact::Link(key.copy()?, role),
+    })?;
+    Ok(())
+}
+
+/// Appends what the clause tells these contexts that have an existential to this one. Linear in the clause, each time once more for an
+/// atom, and in the links where it is of use by some axiom.
+pub(crate) fn tell(
+    index: &Index,
+    key: &Key,
+    clause: &Clause,
+    links: &[LinkFact],
+    out: &mut Vec<Note>,
+) -> Result<(), Memory>
+    ensures { Notes (IsToldBy index.now.normal key.now links.now clause.now) (IsOk result) out.old.items out.new.items }
+{
+    let count = clause.elems().len();
+    if count == 0 {
+        return tell_deads(key, links, out);
+    }
+    'places: for i in 0..count {
+        tell_at(index, key, clause, i, links, out)?;
+    }
+    Ok(())
+}
+
+/// Appends the backs where the element at place `i` is an atom that is eligible. Linear in the clause, and in the links where the atom
+/// is of use by some axiom.
+fn tell_at(
+    index: &Index,
+    key: &Key,
+    clause: &Clause,
+    i: usize,
+    links: &[LinkFact],
+    out: &mut Vec<Note>,
+) -> Result<(), Memory>
+    requires { i < length clause.now }
+    ensures { Notes (IsBackAt index.now.normal key.now links.now clause.now i) (IsOk result) out.old.items out.new.items }
+{
+    match &clause.elems()[i] {
+        Elem::Exist(_, _) => Ok(()),
+        Elem::Plain(atom) => {
+            if eligible(clause, i, index.normal()) {
+                tell_atom(index, key, *atom, links, out)
+            } else {
+                Ok(())
+            }
+        }
+    }
+}
+
+/// Appends a back of the atom for each link where it is of use. Constant time for an atom that no axiom makes of use, and else linear in
+/// the links and these axioms.
+fn tell_atom(
+    index: &Index,
+    key: &Key,
+    atom: Atom,
+    links: &[LinkFact],
+    out: &mut Vec<Note>,
+) -> Result<(), Memory>
+    ensures { Notes (λ note. (f : LinkFact) × Member f links.now × IsUsefulBack index.now.normal key.now atom f note) (IsOk result) out.old.items out.new.items }
+{
+    let axioms = backs_of(index, atom);
+    if axioms.is_empty() {
+        return Ok(());
+    }
+    let mut rest = links;
+    'links: while let [link, others @ ..] = rest {
+        tell_back(index, key, atom, axioms, link, out)?;
+        rest = others;
+    }
+    Ok(())
+}
+
+/// Appends the back of the atom, which has these axioms, where it is of use for the link. Linear in the axioms.
+fn tell_back(
+    index: &Index,
+    key: &Key,
+    atom: Atom,
+    axioms: &[Triple],
+    link: &LinkFact,
+    out: &mut Vec<Note>,
+) -> Result<(), Memory>
+    requires { AreAtAtom index.now.normal.n3 atom axioms.now }
+    ensures { Notes (IsUsefulBack index.now.normal key.now atom link.now) (IsOk result) out.old.items out.new.items }
+{
+    if is_under_one(index, axioms, link.role) {
+        note_back(key, atom, link, out)
+    } else {
+        Ok(())
+    }
+}
+
+/// Whether the role is under that of one of these axioms. Linear in them.
+fn is_under_one(index: &Index, axioms: &[Triple], role: Role) -> bool
+    ensures { (result ≡ true) ↔ IsUnderOne index.now.normal axioms.now role }
+{
+    match axioms {
+        [] => false,
+        [axiom, others @ ..] => {
+            is_under(index, role, axiom.role) || is_under_one(index, others, role)
+        }
+    }
+}
+
+/// Appends the back of the atom for the link. Linear in both keys.
+fn note_back(key: &Key, atom: Atom, link: &LinkFact, out: &mut Vec<Note>) -> Result<(), Memory>
+    ensures { Notes (IsBackNote key.now atom link.now) (IsOk result) out.old.items out.new.items }
+{
+    out.push(Note {
+        key: link.key.copy()?,
+        fact: Fact::Back(link.role, key.copy()?, atom),
+    })?;
+    Ok(())
+}
+
+/// Appends a dead for each link. Linear in the links.
+fn tell_deads(key: &Key, links: &[LinkFact], out: &mut Vec<Note>) -> Result<(), Memory>
+    ensures { Notes (λ note. (f : LinkFact) × Member f links.now × IsDeadNote key.now f note) (IsOk result) out.old.items out.new.items }
+{
+    let mut rest = links;
+    'links: while let [link, others @ ..] = rest {
+        note_dead(key, link, out)?;
+        rest = others;
+    }
+    Ok(())
+}
+
+/// Appends the dead for the link. Linear in both keys.
+fn note_dead(key: &Key, link: &LinkFact, out: &mut Vec<Note>) -> Result<(), Memory>
+    ensures { Notes (IsDeadNote key.now link.now) (IsOk result) out.old.items out.new.items }
+{
+    out.push(Note {
+        key: link.key.copy()?,
+        fact: Fact::Dead(link.role, key.copy()?),
+    })?;
+    Ok(())
+}

@@ -1,0 +1,125 @@
+//! A context over a small index. Expected values are written by hand.
+ghost use Rattle.std.specs.Prelude.{◌≡◌, ◌∷◌, [], IfOk, IsTrue, List};
+ghost use Rattle.std.specs.List.{list_all};
+ghost use Rattle.cd_base.specs.Normal.{has_atoms_below};
+ghost use Rattle.cd_base.specs.declared.normal.Conj.{Conj};
+ghost use Rattle.cd_base.specs.declared.normal.Normal.{Normal};
+
+use crate::{Context, Fact};
+use cd_base::{Atom, Conj, Key, Lit, Memory, Normal, Role, Seq, Triple};
+use cd_index::{Closure, Index};
+use std::alloc::Global;
+use std::test::Fail;
+
+fn triple(atom: u32, other: u32) -> Triple
+    ensures atom { result.atom ≡ atom }
+    ensures role { result.role ≡ 0 }
+    ensures other { result.other ≡ other }
+{
+    Triple {
+        atom: Atom(atom),
+        role: Role(0),
+        other: Atom(other),
+    }
+}
+
+fn no_atoms(alloc: Global) -> Seq<Atom>
+    ensures { result ≡ [] }
+{
+    Seq::of(Vec::new(alloc))
+}
+
+fn one_atom(alloc: Global, atom: u32) -> Result<Seq<Atom>, Memory>
+    ensures { IfOk result (λ atoms. atoms ≡ atom ∷ []) }
+{
+    Ok(Seq::of(vec![in alloc; Atom(atom)]?))
+}
+
+/// `-> 0`, `1 ->` and `2 -> 3`.
+fn three_axioms(alloc: Global) -> Result<Seq<Conj>, Memory>
+    ensures { IfOk result (λ (axioms : List Conj). IsTrue (list_all (has_atoms_below 6) axioms)) }
+{
+    let always = Conj {
+        left: no_atoms(alloc),
+        right: one_atom(alloc, 0)?,
+    };
+    let never = Conj {
+        left: one_atom(alloc, 1)?,
+        right: no_atoms(alloc),
+    };
+    let below = Conj {
+        left: one_atom(alloc, 2)?,
+        right: one_atom(alloc, 3)?,
+    };
+    Ok(Seq::of(vec![in alloc; always, never, below]?))
+}
+
+/// Six classes, one role, three axioms of atoms, an edge from each 2 to a 4, and whoever has an edge to a 4 is a 5.
+fn six_atoms(alloc: Global) -> Result<Normal, Memory>
+    ensures { IfOk result (λ (normal : Normal). (normal.atoms ≡ 6) × (normal.roles ≡ 1) × (normal.n5 ≡ [])) }
+{
+    let n1 = three_axioms(alloc)?;
+    let named = vec![in alloc; true, true, true, true, true, true]?;
+    let n2 = vec![in alloc; triple(2, 4)]?;
+    let n3 = vec![in alloc; triple(4, 5)]?;
+    Ok(Normal {
+        atoms: 6,
+        named: Seq::of(named),
+        roles: 1,
+        n1,
+        n2: Seq::of(n2),
+        n3: Seq::of(n3),
+        n4: Seq::of(Vec::new(alloc)),
+        n5: Seq::of(Vec::new(alloc)),
+    })
+}
+
+/// The index of `six_atoms`.
+fn hand_made(alloc: Global) -> Result<Index, Memory>
+    ensures { IfOk result (λ index. (index.normal.atoms ≡ 6) × (index.normal.roles ≡ 1)) }
+{
+    let normal = six_atoms(alloc)?;
+    let closure = Closure::of(alloc, normal.roles, normal.n5.items())?;
+    Index::of(alloc, normal, closure)
+}
+
+#[test]
+fn a_context_is_closed_and_tells_its_links(rt: HostRuntime) -> Result<(), Fail> {
+    let alloc = rt.alloc();
+    let index = hand_made(alloc)?;
+    let mut out = Vec::new(alloc);
+    let context = Context::begin(alloc, Key::single(alloc, Atom(2)), &index, &mut out)?;
+    assert_eq!(rt; context.facts(), 4);
+    assert!(rt; context.has_single(Atom(2)) && context.has_single(Atom(0)) && context.has_single(Atom(3)));
+    assert!(rt; !context.has_single(Atom(5)) && !context.has_empty());
+    let told = "[Note { key: Key { lits: [Lit { atom: Atom(4), negated: false }] }, fact: Link(Key { lits: [Lit { atom: Atom(2), negated: false }] }, Role(0)) }]";
+    assert_eq!(rt; format!(in alloc; "{:?}", out)?.as_str(), told);
+    let mut owed = Vec::new(alloc);
+    context.list_owed(alloc, &index, &mut owed)?;
+    assert_eq!(rt; format!(in alloc; "{:?}", owed)?.as_str(), told);
+    Ok(())
+}
+
+#[test]
+fn a_back_and_then_a_dead_give_the_superclass(rt: HostRuntime) -> Result<(), Fail> {
+    let alloc = rt.alloc();
+    let index = hand_made(alloc)?;
+    let mut out = Vec::new(alloc);
+    let mut context = Context::begin(alloc, Key::single(alloc, Atom(2)), &index, &mut out)?;
+    let four = Key::single(alloc, Atom(4));
+    let narrowed = four.with(Lit {
+        atom: Atom(4),
+        negated: true,
+    })?;
+    let mut told = Vec::new(alloc);
+    context.absorb(alloc, Fact::Back(Role(0), four, Atom(4)), &index, &mut told)?;
+    assert_eq!(rt;
+        format!(in alloc; "{:?}", told)?.as_str(),
+        "[Note { key: Key { lits: [Lit { atom: Atom(4), negated: false }, Lit { atom: Atom(4), negated: true }] }, fact: Link(Key { lits: [Lit { atom: Atom(2), negated: false }] }, Role(0)) }]"
+    );
+    assert!(rt; !context.has_single(Atom(5)));
+    context.absorb(alloc, Fact::Dead(Role(0), narrowed), &index, &mut told)?;
+    assert!(rt; context.has_single(Atom(5)));
+    assert_eq!(rt; context.facts(), 8);
+    Ok(())
+}

@@ -1,0 +1,20 @@
+use Rattle.std.proofs.Common.{◌<◌, ◌≤◌, length, get_or, refl, subst}
+use Rattle.cd_clause.specs.declared.elem.Elem.TheVariants.{Plain}
+use Rattle.cd_rules.specs.Walks.{IsAllAtExist}
+use Rattle.cd_rules.proofs.Pushed.{failed}
+use Rattle.cd_rules.proofs.EachItem.{goes_on, stops, ends}
+use Rattle.cd_rules.proofs.all.all_with_exists.Goals as goal
+
+pub returns-in_err-all_at_exist : goal.returns-in_err-all_at_exist
+returns-in_err-all_at_exist c = stops (IsAllAtExist c.args.index.now.normal c.args.triples.now c.args.others.now c.args.clause.now)
+    c.args.clause.now c.loop-i.i (get_or c.args.clause.now c.loop-i.i (Plain 0)) (Plain 0) (subst (λ w. c.loop-i.i < length w) c.elems-i-end.ensures.elems c.loop-i-test.true) refl
+    _ c.loop-i.invariant c.in_err-all_at_exist.ensures (failed c.from_residual.result c.from_residual.ensures.0) (λ d p. p)
+
+pub loop-i-preserved : goal.loop-i-preserved
+loop-i-preserved c = goes_on (IsAllAtExist c.args.index.now.normal c.args.triples.now c.args.others.now c.args.clause.now)
+    c.args.clause.now c.loop-i.i (get_or c.args.clause.now c.loop-i.i (Plain 0)) (Plain 0) (subst (λ w. c.loop-i.i < length w) c.elems-i-end.ensures.elems c.loop-i-test.true) refl
+    c.loop-i.invariant c.in_ok-all_at_exist.ensures refl
+
+pub returns : goal.returns
+returns c = ends _ (IsAllAtExist c.args.index.now.normal c.args.triples.now c.args.others.now c.args.clause.now)
+    c.args.clause.now c.loop-i.i (subst (λ w. length w ≤ c.loop-i.i) c.elems-i-end.ensures.elems c.loop-i-test.false) c.loop-i.invariant (λ d p. p) (λ d p. p)

@@ -1,0 +1,25 @@
+-- Facts that come from the contexts of existentials, and conclusions from clauses and facts.
+use Rattle.std.specs.Prelude.{ℕ, List}
+use Rattle.cd_base.specs.Lists.{Member}
+use Rattle.cd_base.specs.declared.normal.Normal.{Normal}
+use Rattle.cd_clause.specs.declared.elem.Elem.{Elem}
+use Rattle.cd_clause.specs.Numbers.{picked}
+use Rattle.cd_clause.specs.Rules.{Concludes}
+use Rattle.cd_rules.specs.declared.facts.BackFact.{BackFact}
+use Rattle.cd_rules.specs.declared.facts.DeadFact.{DeadFact}
+
+-- the fact is one of these
+abbrev pub IsBack : List BackFact → ℕ → List ℕ → ℕ → Type 0
+IsBack backs r k a = Member (record { role = r; key = k; atom = a }) backs
+
+-- the fact is one of these
+abbrev pub IsDead : List DeadFact → ℕ → List ℕ → Type 0
+IsDead deads r k = Member (record { role = r; key = k }) deads
+
+-- the clause has one of these numbers
+abbrev pub IsPicked : List (List Elem) → List ℕ → List Elem → Type 0
+IsPicked clauses numbers c = Member c (picked clauses numbers)
+
+-- in the context of `key`, d is the conclusion of a rule from clauses that are had and from these facts
+abbrev pub ConcludesFrom : Normal → List ℕ → (List Elem → Type 0) → List BackFact → List DeadFact → List Elem → Type 0
+ConcludesFrom n key Has backs deads d = Concludes n key Has (IsBack backs) (IsDead deads) d

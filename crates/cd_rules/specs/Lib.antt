@@ -1,0 +1,9 @@
+pub mod Appends
+pub mod Candidates
+pub mod Elems
+pub mod Facts
+pub mod LookUps
+pub mod Parts
+pub mod Steps
+pub mod Uses
+pub mod Walks

@@ -1,0 +1,28 @@
+//! The rules of the calculus, in code: each call appends exactly the conclusions that use what it is given.
+//!
+//! A context calls `on_key` once, `on_clause` for each clause that it takes up, and `on_back` and `on_dead` for each fact that comes.
+//! One module has one rule and is named as the rule, with its picture over it. Each goes from one eligible element of the premise, whose
+//! rest is made once, to what the index lists for that element (`premise`).
+#![tactic(auto)]
+
+mod all;
+mod atoms;
+mod back;
+mod candidates;
+mod con;
+mod dead;
+mod ex;
+mod existential;
+mod facts;
+mod init;
+mod look_ups;
+mod neg;
+mod premise;
+#[cfg(test)]
+mod tests;
+
+pub use back::on_back;
+pub use dead::on_dead;
+pub use facts::{BackFact, DeadFact};
+pub use init::on_key;
+pub use premise::on_clause;

@@ -1,0 +1,127 @@
+//! All rules for one premise.
+ghost use Rattle.std.specs.Prelude.{◌≡◌, ◌<◌, ◌∷◌, ℕ, length, IfOk, IsOk};
+ghost use Rattle.cd_base.specs.Lists.{Member};
+ghost use Rattle.cd_rules.specs.Appends.{Appends};
+ghost use Rattle.cd_rules.specs.Facts.{IsPicked};
+ghost use Rattle.cd_rules.specs.Elems.{IsOfElem};
+ghost use Rattle.cd_rules.specs.Steps.{IsOfAtom, IsOfExist};
+ghost use Rattle.cd_rules.specs.Uses.{FromClause};
+
+use crate::all::{all_of_atom, all_of_exist};
+use crate::back::back_from;
+use crate::con::con;
+use crate::dead::dead_from;
+use crate::ex::ex;
+use crate::facts::{BackFact, DeadFact};
+use crate::neg::neg;
+use cd_base::{Atom, Key, Memory, Role};
+use cd_clause::{Clause, Elem, eligible};
+use cd_index::Index;
+use std::alloc::Global;
+
+/// Appends every conclusion of the context of `key` that uses the clause numbered `premise` on an eligible element, with other premises
+/// that are that clause or live, eligible too, or among the facts; and no other.
+///
+/// `live` need have only such numbers as can be of use. The cost is that of the rules for each eligible element of the clause.
+/// `Memory` leaves such conclusions alone behind.
+pub fn on_clause(
+    alloc: Global,
+    index: &Index,
+    key: &Key,
+    clauses: &[Clause],
+    live: &[usize],
+    premise: usize,
+    backs: &[BackFact],
+    deads: &[DeadFact],
+    out: &mut Vec<Clause>,
+) -> Result<(), Memory>
+    requires live { (k : ℕ) → Member k live.now → k < length clauses.now }
+    requires premise { premise < length clauses.now }
+    ensures { Appends (FromClause index.now.normal key.now clauses.now live.now premise backs.now deads.now) (IsOk result) out.old.items out.new.items }
+{
+    let choices = choices_of(alloc, premise, live)?;
+    let clause = &clauses[premise];
+    let elems = clause.elems();
+    'places: for i in 0..elems.len() {
+        if eligible(clause, i, index.normal()) {
+            let others = clause.without(i)?;
+            on_elem(
+                alloc, index, key, clauses, &choices, backs, deads, &elems[i], &others, out,
+            )?;
+        }
+    }
+    Ok(())
+}
+
+/// The numbers of the clauses that may stand beside the premise: its own, and the live ones. Linear in these.
+fn choices_of(alloc: Global, premise: usize, live: &[usize]) -> Result<Vec<usize>, Memory>
+    ensures { IfOk result (λ choices. choices.items ≡ premise ∷ live.now) }
+{
+    let mut choices = vec![in alloc; premise]?;
+    choices.extend_from_slice(live)?;
+    Ok(choices)
+}
+
+/// The rules that work on an element of the premise, whose rest is `others`. The cost is that of these rules.
+fn on_elem(
+    alloc: Global,
+    index: &Index,
+    key: &Key,
+    clauses: &[Clause],
+    choices: &[usize],
+    backs: &[BackFact],
+    deads: &[DeadFact],
+    elem: &Elem,
+    others: &Clause,
+    out: &mut Vec<Clause>,
+) -> Result<(), Memory>
+    requires choices { (k : ℕ) → Member k choices.now → k < length clauses.now }
+    ensures { Appends (IsOfElem index.now.normal key.now (IsPicked clauses.now choices.now) backs.now deads.now elem.now others.now) (IsOk result) out.old.items out.new.items }
+{
+    match elem {
+        Elem::Plain(atom) => on_atom(alloc, index, key, clauses, choices, *atom, others, out),
+        Elem::Exist(role, exist) => on_exist(
+            index, clauses, choices, backs, deads, *role, exist, others, out,
+        ),
+    }
+}
+
+/// The rules that work on an atom of the premise, whose rest is `others`.
+fn on_atom(
+    alloc: Global,
+    index: &Index,
+    key: &Key,
+    clauses: &[Clause],
+    choices: &[usize],
+    atom: Atom,
+    others: &Clause,
+    out: &mut Vec<Clause>,
+) -> Result<(), Memory>
+    requires choices { (k : ℕ) → Member k choices.now → k < length clauses.now }
+    ensures { Appends (IsOfAtom index.now.normal key.now (IsPicked clauses.now choices.now) atom others.now) (IsOk result) out.old.items out.new.items }
+{
+    neg(key, atom, others, out)?;
+    ex(alloc, index, atom, others, out)?;
+    con(alloc, index, clauses, choices, atom, others, out)?;
+    all_of_atom(index, clauses, choices, atom, others, out)
+}
+
+/// The rules that work on an existential of the premise, whose rest is `others`.
+fn on_exist(
+    index: &Index,
+    clauses: &[Clause],
+    choices: &[usize],
+    backs: &[BackFact],
+    deads: &[DeadFact],
+    role: Role,
+    key: &Key,
+    others: &Clause,
+    out: &mut Vec<Clause>,
+) -> Result<(), Memory>
+    requires choices { (k : ℕ) → Member k choices.now → k < length clauses.now }
+    ensures { Appends (IsOfExist index.now.normal (IsPicked clauses.now choices.now) backs.now deads.now role key.now others.now) (IsOk result) out.old.items out.new.items }
+{
+    back_from(index, backs, role, key, others, out)?;
+    dead_from(deads, role, key, others, out)?;
+    all_of_exist(index, clauses, choices, role, key, others, out)
+}
