@@ -90,9 +90,12 @@ fn a_context_is_closed_and_tells_its_links(rt: HostRuntime) -> Result<(), Fail> 
     let mut out = Vec::new(alloc);
     let context = Context::begin(alloc, Key::single(alloc, Atom(2)), &index, &mut out)?;
     assert_eq!(rt; context.facts(), 4);
-    assert!(rt; context.has_single(Atom(2)) && context.has_single(Atom(0)) && context.has_single(Atom(3)));
+    assert!(rt;
+        context.has_single(Atom(2)) && context.has_single(Atom(0)) && context.has_single(Atom(3))
+    );
     assert!(rt; !context.has_single(Atom(5)) && !context.has_empty());
-    let told = "[Note { key: Key { lits: [Lit { atom: Atom(4), negated: false }] }, fact: Link(Key { lits: [Lit { atom: Atom(2), negated: false }] }, Role(0)) }]";
+    let told =
+        "[Note { key: Key { lits: [Lit { atom: Atom(4), negated: false }] }, fact: Link(Key { lits: [Lit { atom: Atom(2), negated: false }] }, Role(0)) }]";
     assert_eq!(rt; format!(in alloc; "{:?}", out)?.as_str(), told);
     let mut owed = Vec::new(alloc);
     context.list_owed(alloc, &index, &mut owed)?;

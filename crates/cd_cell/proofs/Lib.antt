@@ -1,0 +1,10 @@
+pub mod Choice
+pub mod Complete
+pub mod Exact
+pub mod Listings
+pub mod Maximal
+pub mod Model
+pub mod Numbers
+pub mod Order
+pub mod Places
+pub mod Saturating

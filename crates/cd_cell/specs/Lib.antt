@@ -1,0 +1,4 @@
+pub mod Canonical
+pub mod Closed
+pub mod Exactness
+pub mod Saturated

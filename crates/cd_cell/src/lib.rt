@@ -1,0 +1,31 @@
+//! What contexts say of a document once nothing is owed: laws on contexts, by the canonical finite model.
+//!
+//! Contexts that are closed, and that owe each other nothing that is not had, are saturated: each conclusion of every rule is redundant
+//! (`closed_is_saturated`). Saturated contexts have a finite model, whose elements are the contexts without the empty clause
+//! (`contexts_have_a_model`). So what the context of a named atom says is exact (`answers_are_exact`). The cells that keep such contexts are
+//! not built yet.
+#![tactic(auto)]
+
+ghost use Rattle.cd_cell.specs.Canonical.{Completeness};
+ghost use Rattle.cd_cell.specs.Closed.{Saturation};
+ghost use Rattle.cd_cell.specs.Exactness.{Exactness};
+
+/// Where the contexts of some keys are closed and each note that one of them owes is had, every conclusion of every rule from their live
+/// clauses is redundant in its context, and the key of each eligible existential has a context.
+pub fn closed_is_saturated()
+    ensures { Saturation }
+{}
+
+/// Saturated contexts, one of which is that of an atom and without the empty clause, have a finite model of the normal axioms: the
+/// canonical interpretation. The context of each such atom is an element of the atom in it, and an element of a given named atom only where
+/// that atom's own clause is live in the context.
+pub fn contexts_have_a_model()
+    ensures { Completeness }
+{}
+
+/// Of saturated contexts whose live clauses are derived, that of an atom has the empty clause exactly where the atom has no element in any
+/// finite model of the normal axioms, and else the clause of a named atom exactly where each element of the one is one of the other in
+/// every finite model.
+pub fn answers_are_exact()
+    ensures { Exactness }
+{}
