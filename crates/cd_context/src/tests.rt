@@ -1,12 +1,13 @@
 //! A context over a small index. Expected values are written by hand.
-ghost use Rattle.std.specs.Prelude.{◌≡◌, ◌∷◌, [], IfOk, IsTrue, List};
+ghost use Rattle.std.specs.Prelude.{◌≡◌, ◌∷◌, [], true, IfOk, IsTrue, List};
 ghost use Rattle.std.specs.List.{list_all};
+ghost use Rattle.cd_base.specs.Keys.{is_named};
 ghost use Rattle.cd_base.specs.Normal.{has_atoms_below};
 ghost use Rattle.cd_base.specs.declared.normal.Conj.{Conj};
 ghost use Rattle.cd_base.specs.declared.normal.Normal.{Normal};
 
-use crate::{Context, Fact};
-use cd_base::{Atom, Conj, Key, Lit, Memory, Normal, Role, Seq, Triple};
+use crate::{Context, Note};
+use cd_base::{Atom, Conj, Key, Memory, Normal, Role, Seq, Triple};
 use cd_index::{Closure, Index};
 use std::alloc::Global;
 use std::test::Fail;
@@ -56,7 +57,8 @@ fn three_axioms(alloc: Global) -> Result<Seq<Conj>, Memory>
 
 /// Six classes, one role, three axioms of atoms, an edge from each 2 to a 4, and whoever has an edge to a 4 is a 5.
 fn six_atoms(alloc: Global) -> Result<Normal, Memory>
-    ensures { IfOk result (λ (normal : Normal). (normal.atoms ≡ 6) × (normal.roles ≡ 1) × (normal.n5 ≡ [])) }
+    ensures range { IfOk result (λ (normal : Normal). (normal.atoms ≡ 6) × (normal.roles ≡ 1) × (normal.n5 ≡ [])) }
+    ensures named { IfOk result (λ (normal : Normal). is_named normal 2 ≡ true) }
 {
     let n1 = three_axioms(alloc)?;
     let named = vec![in alloc; true, true, true, true, true, true]?;
@@ -76,53 +78,37 @@ fn six_atoms(alloc: Global) -> Result<Normal, Memory>
 
 /// The index of `six_atoms`.
 fn hand_made(alloc: Global) -> Result<Index, Memory>
-    ensures { IfOk result (λ index. (index.normal.atoms ≡ 6) × (index.normal.roles ≡ 1)) }
+    ensures { IfOk result (λ index. is_named index.normal 2 ≡ true) }
 {
     let normal = six_atoms(alloc)?;
     let closure = Closure::of(alloc, normal.roles, normal.n5.items())?;
     Index::of(alloc, normal, closure)
 }
 
-#[test]
-fn a_context_is_closed_and_tells_its_links(rt: HostRuntime) -> Result<(), Fail> {
-    let alloc = rt.alloc();
-    let index = hand_made(alloc)?;
-    let mut out = Vec::new(alloc);
-    let context = Context::begin(alloc, Key::single(alloc, Atom(2)), &index, &mut out)?;
-    assert_eq!(rt; context.facts(), 4);
-    assert!(rt;
-        context.has_single(Atom(2)) && context.has_single(Atom(0)) && context.has_single(Atom(3))
-    );
-    assert!(rt; !context.has_single(Atom(5)) && !context.has_empty());
-    let told =
-        "[Note { key: Key { lits: [Lit { atom: Atom(4), negated: false }] }, fact: Link(Key { lits: [Lit { atom: Atom(2), negated: false }] }, Role(0)) }]";
-    assert_eq!(rt; format!(in alloc; "{:?}", out)?.as_str(), told);
-    let mut owed = Vec::new(alloc);
-    context.list_owed(alloc, &index, &mut owed)?;
-    assert_eq!(rt; format!(in alloc; "{:?}", owed)?.as_str(), told);
-    Ok(())
+/// The context of the class 2.
+fn begun(alloc: Global, index: &Index, out: &mut Vec<Note>) -> Result<Context, Memory>
+    requires { is_named index.now.normal 2 ≡ true }
+{
+    Context::begin(alloc, Key::single(alloc, Atom(2)), index, out)
+}
+
+/// Whether it has the clauses of 2, of owl:Thing and of 3, and that of the edge, and no other.
+fn is_as_it_should_be(context: &Context) -> bool {
+    context.facts() == 4
+        && context.has_single(Atom(2))
+        && context.has_single(Atom(0))
+        && context.has_single(Atom(3))
+        && !context.has_single(Atom(5))
+        && !context.has_empty()
 }
 
 #[test]
-fn a_back_and_then_a_dead_give_the_superclass(rt: HostRuntime) -> Result<(), Fail> {
+fn a_context_is_closed_and_tells_its_link(rt: HostRuntime) -> Result<(), Fail> {
     let alloc = rt.alloc();
     let index = hand_made(alloc)?;
     let mut out = Vec::new(alloc);
-    let mut context = Context::begin(alloc, Key::single(alloc, Atom(2)), &index, &mut out)?;
-    let four = Key::single(alloc, Atom(4));
-    let narrowed = four.with(Lit {
-        atom: Atom(4),
-        negated: true,
-    })?;
-    let mut told = Vec::new(alloc);
-    context.absorb(alloc, Fact::Back(Role(0), four, Atom(4)), &index, &mut told)?;
-    assert_eq!(rt;
-        format!(in alloc; "{:?}", told)?.as_str(),
-        "[Note { key: Key { lits: [Lit { atom: Atom(4), negated: false }, Lit { atom: Atom(4), negated: true }] }, fact: Link(Key { lits: [Lit { atom: Atom(2), negated: false }] }, Role(0)) }]"
-    );
-    assert!(rt; !context.has_single(Atom(5)));
-    context.absorb(alloc, Fact::Dead(Role(0), narrowed), &index, &mut told)?;
-    assert!(rt; context.has_single(Atom(5)));
-    assert_eq!(rt; context.facts(), 8);
+    let context = begun(alloc, &index, &mut out)?;
+    assert!(rt; is_as_it_should_be(&context));
+    assert_eq!(rt; out.len(), 1);
     Ok(())
 }
