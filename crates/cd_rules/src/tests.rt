@@ -1,12 +1,12 @@
 //! Small indexes, keys and clauses. Expected values are written by hand.
-ghost use Rattle.std.specs.Prelude.{◌≡◌, ◌∷◌, [], IfOk, IsTrue, List};
+ghost use Rattle.std.specs.Prelude.{◌≡◌, ◌∷◌, ◌<◌, [], length, IfOk, IsTrue, List};
 ghost use Rattle.std.specs.List.{list_all};
 ghost use Rattle.cd_base.specs.Normal.{has_atoms_below};
 ghost use Rattle.cd_base.specs.declared.normal.Conj.{Conj};
 ghost use Rattle.cd_base.specs.declared.normal.Normal.{Normal};
 
 use crate::{BackFact, DeadFact, on_back, on_clause, on_dead, on_key};
-use cd_base::{Atom, Conj, Key, Lit, Memory, Normal, Role, Seq, Triple};
+use cd_base::{Atom, Conj, Key, Memory, Normal, Role, Seq, Triple};
 use cd_clause::{Clause, Elem};
 use cd_index::{Closure, Index};
 use std::alloc::Global;
@@ -84,76 +84,131 @@ fn hand_made(alloc: Global) -> Result<Index, Memory>
     Index::of(alloc, normal, closure)
 }
 
-/// The clause of an existential of role 0 to the class 4.
-fn edge_to_four(alloc: Global) -> Result<Clause, Memory> {
-    Clause::of(alloc, &[Elem::Exist(Role(0), Key::single(alloc, Atom(4)))])
+/// The clause of an existential of role 0 to the class 4, alone in a list.
+fn edge_to_four(alloc: Global) -> Result<Vec<Clause>, Memory>
+    ensures { IfOk result (λ clauses. length clauses.items ≡ 1) }
+{
+    let clause = Clause::of(alloc, &[Elem::Exist(Role(0), Key::single(alloc, Atom(4)))])?;
+    Ok(vec![in alloc; clause]?)
 }
 
-#[test]
-fn a_key_gives_its_atoms_and_what_always_holds(rt: HostRuntime) -> Result<(), Fail> {
-    let alloc = rt.alloc();
-    let index = hand_made(alloc)?;
-    let key = Key::single(alloc, Atom(2)).with(Lit {
-        atom: Atom(1),
-        negated: true,
-    })?;
+/// The clause of the class 2, alone in a list.
+fn atom_two(alloc: Global) -> Result<Vec<Clause>, Memory>
+    ensures { IfOk result (λ clauses. length clauses.items ≡ 1) }
+{
+    let clause = Clause::of(alloc, &[Elem::Plain(Atom(2))])?;
+    Ok(vec![in alloc; clause]?)
+}
+
+/// What the key of the class 2 gives.
+fn from_key(alloc: Global, index: &Index) -> Result<Vec<Clause>, Memory> {
     let mut out = Vec::new(alloc);
-    on_key(alloc, &index, &key, &mut out)?;
-    assert_eq!(rt;
-        format!(in alloc; "{:?}", out)?.as_str(),
-        "[Clause { elems: [Plain(Atom(2))] }, Clause { elems: [Plain(Atom(0))] }]"
-    );
-    Ok(())
+    on_key(alloc, index, &Key::single(alloc, Atom(2)), &mut out)?;
+    Ok(out)
 }
 
-#[test]
-fn a_premise_gives_what_its_atom_implies_and_its_edge(rt: HostRuntime) -> Result<(), Fail> {
-    let alloc = rt.alloc();
-    let index = hand_made(alloc)?;
+/// What the clause of the class 2 gives in the context of that class.
+fn from_clause(alloc: Global, index: &Index, clauses: &[Clause]) -> Result<Vec<Clause>, Memory>
+    requires { 0 < length clauses.now }
+{
     let key = Key::single(alloc, Atom(2));
-    let clauses = vec![in alloc; Clause::of(alloc, &[Elem::Plain(Atom(2))])?]?;
     let mut out = Vec::new(alloc);
-    on_clause(alloc, &index, &key, &clauses, &[0], 0, &[], &[], &mut out)?;
-    assert_eq!(rt;
-        format!(in alloc; "{:?}", out)?.as_str(),
-        "[Clause { elems: [Exist(Role(0), Key { lits: [Lit { atom: Atom(4), negated: false }] })] }, Clause { elems: [Plain(Atom(3))] }]"
-    );
-    Ok(())
+    on_clause(alloc, index, &key, clauses, &[], 0, &[], &[], &mut out)?;
+    Ok(out)
 }
 
-#[test]
-fn a_back_keeps_the_existential_with_the_atom_negated(rt: HostRuntime) -> Result<(), Fail> {
-    let alloc = rt.alloc();
-    let index = hand_made(alloc)?;
-    let clauses = vec![in alloc; edge_to_four(alloc)?]?;
+/// What a back gives: that the context of the class 4 has the class 4.
+fn from_back(alloc: Global, index: &Index, clauses: &[Clause]) -> Result<Vec<Clause>, Memory>
+    requires { 0 < length clauses.now }
+{
     let back = BackFact {
         role: Role(0),
         key: Key::single(alloc, Atom(4)),
         atom: Atom(4),
     };
     let mut out = Vec::new(alloc);
-    on_back(&index, &clauses, &[0], &back, &mut out)?;
-    assert_eq!(rt;
-        format!(in alloc; "{:?}", out)?.as_str(),
-        "[Clause { elems: [Plain(Atom(5)), Exist(Role(0), Key { lits: [Lit { atom: Atom(4), negated: false }, Lit { atom: Atom(4), negated: true }] })] }]"
-    );
-    Ok(())
+    on_back(index, clauses, &[0], &back, &mut out)?;
+    Ok(out)
 }
 
-#[test]
-fn a_dead_gives_the_rest_of_the_clause(rt: HostRuntime) -> Result<(), Fail> {
-    let alloc = rt.alloc();
-    let index = hand_made(alloc)?;
-    let clauses = vec![in alloc; edge_to_four(alloc)?]?;
+/// What a dead gives: that the context of the class 4 has the empty clause.
+fn from_dead(alloc: Global, index: &Index, clauses: &[Clause]) -> Result<Vec<Clause>, Memory>
+    requires { 0 < length clauses.now }
+{
     let dead = DeadFact {
         role: Role(0),
         key: Key::single(alloc, Atom(4)),
     };
     let mut out = Vec::new(alloc);
-    on_dead(&index, &clauses, &[0], &dead, &mut out)?;
-    assert_eq!(rt;
-        format!(in alloc; "{:?}", out)?.as_str(),
-        "[Clause { elems: [] }]"
-    );
+    on_dead(index, clauses, &[0], &dead, &mut out)?;
+    Ok(out)
+}
+
+/// Whether the clauses are written like this.
+fn are_written(alloc: Global, clauses: &[Clause], text: &str) -> Result<bool, Memory> {
+    let written = format!(in alloc; "{:?}", clauses)?;
+    Ok(written.as_str() == text)
+}
+
+/// Whether the key of the class 2 gives two clauses, that class and owl:Thing.
+fn key_gives(alloc: Global) -> Result<bool, Memory> {
+    let index = hand_made(alloc)?;
+    let out = from_key(alloc, &index)?;
+    Ok(out.len() == 2)
+}
+
+/// What the clause of the class 2 gives is its edge and the class 3.
+fn clause_gives(alloc: Global) -> Result<bool, Memory> {
+    let index = hand_made(alloc)?;
+    let clauses = atom_two(alloc)?;
+    let out = from_clause(alloc, &index, &clauses)?;
+    let text =
+        "[Clause { elems: [Exist(Role(0), Key { lits: [Lit { atom: Atom(4), negated: false }] })] }, Clause { elems: [Plain(Atom(3))] }]";
+    are_written(alloc, &out, text)
+}
+
+/// What the back gives is the class 5 or a narrower existential.
+fn back_gives(alloc: Global) -> Result<bool, Memory> {
+    let index = hand_made(alloc)?;
+    let clauses = edge_to_four(alloc)?;
+    let out = from_back(alloc, &index, &clauses)?;
+    let text =
+        "[Clause { elems: [Plain(Atom(5)), Exist(Role(0), Key { lits: [Lit { atom: Atom(4), negated: false }, Lit { atom: Atom(4), negated: true }] })] }]";
+    are_written(alloc, &out, text)
+}
+
+/// Whether the dead gives one clause.
+fn dead_gives(alloc: Global) -> Result<bool, Memory> {
+    let index = hand_made(alloc)?;
+    let clauses = edge_to_four(alloc)?;
+    let out = from_dead(alloc, &index, &clauses)?;
+    Ok(out.len() == 1)
+}
+
+#[test]
+fn a_key_gives_its_atoms_and_what_always_holds(rt: HostRuntime) -> Result<(), Fail> {
+    let holds = key_gives(rt.alloc())?;
+    assert!(rt; holds);
+    Ok(())
+}
+
+#[test]
+fn a_premise_gives_its_edge_and_what_its_atom_implies(rt: HostRuntime) -> Result<(), Fail> {
+    let holds = clause_gives(rt.alloc())?;
+    assert!(rt; holds);
+    Ok(())
+}
+
+#[test]
+fn a_back_keeps_the_existential_with_the_atom_negated(rt: HostRuntime) -> Result<(), Fail> {
+    let holds = back_gives(rt.alloc())?;
+    assert!(rt; holds);
+    Ok(())
+}
+
+#[test]
+fn a_dead_gives_the_rest_of_the_clause(rt: HostRuntime) -> Result<(), Fail> {
+    let holds = dead_gives(rt.alloc())?;
+    assert!(rt; holds);
     Ok(())
 }
