@@ -74,8 +74,22 @@ module _ (clauses : List (List Elem)) (live after : List ℕ) (c : List Elem) (s
   pub supersets_die : (d : List Elem) → Member d (picked (clauses ++ c ∷ []) (after ++ length clauses ∷ [])) → Within c d → d ≡ c
   supersets_die d h w = elim (from d h) [ inl e ↦ e | inr r ↦ absurd ((sifts.only r.0 r.1).1 (subst (λ q. Within c q) r.2 w)) ]
 
+  only_last : (n : ℕ) → Member n (length clauses ∷ []) → n ≡ length clauses
+  only_last n h = elim h [ inl e ↦ e | inr z ↦ absurd z ]
+
+  last_is : (n : ℕ) → Member n (length clauses ∷ []) → get_or (clauses ++ c ∷ []) n [] ≡ c
+  last_is n h = ap (λ k. get_or (clauses ++ c ∷ []) k []) (only_last n h) ∙ get_last clauses c
+
+  between : (m k : ℕ) → Member m after ⊎ Member m (length clauses ∷ []) → Member k after ⊎ Member k (length clauses ∷ []) → Within (get_or (clauses ++ c ∷ []) m []) (get_or (clauses ++ c ∷ []) k []) → m ≡ k
+  between m k (inl a) (inl b) w = s.minimal m k (sifts.only m a).0 (sifts.only k b).0 (subst (λ q. Within q (get_or clauses k [])) (same m a) (subst (λ q. Within (get_or (clauses ++ c ∷ []) m []) q) (same k b) w))
+  between m k (inl a) (inr b) w =
+      absurd (free (get_or clauses m [], picked_in clauses live m (sifts.only m a).0, subst (λ q. Within q c) (same m a) (subst (λ q. Within (get_or (clauses ++ c ∷ []) m []) q) (last_is k b) w)))
+  between m k (inr a) (inl b) w = absurd ((sifts.only k b).1 (subst (λ q. Within q (get_or clauses k [])) (last_is m a) (subst (λ q. Within (get_or (clauses ++ c ∷ []) m []) q) (same k b) w)))
+  between m k (inr a) (inr b) w = only_last m a ∙ sym (only_last k b)
+
   pub is_store : IsStore (clauses ++ c ∷ []) (after ++ length clauses ∷ [])
   is_store = record {
+    minimal = λ m k h i w. between m k (member_cases m after (length clauses ∷ []) h) (member_cases k after (length clauses ∷ []) i) w;
     in_range = λ n h. let l : length (clauses ++ c ∷ []) ≡ length clauses + 1 = length-append clauses (c ∷ []) in
         elim (member_cases n after (length clauses ∷ []) h) [
           | inl k ↦ let b : n < length clauses = s.in_range n (sifts.only n k).0 in omega arith

@@ -17,13 +17,15 @@ abbrev pub ContainsNoEarlier : List (List Elem) → Type 0
 ContainsNoEarlier [] = Unit {0}
 ContainsNoEarlier (c ∷ cs) = ((d : List Elem) → Member d cs → Within d c → ⊥) × ContainsNoEarlier cs
 
--- what a store keeps: live numbers are those of clauses and ascend, and no clause contains one of a lower number
+-- what a store keeps: live numbers are those of clauses and ascend, no live clause contains another, and no clause one of a lower number
 pub record IsStore (clauses : List (List Elem)) (live : List ℕ) : Type 0 where
   pub in_range : (n : ℕ) → Member n live → n < length clauses
   pub ascends : IsAscending live
   -- each stored clause has a live subset
   pub covered : (c : List Elem) → Member c clauses → Redundant (picked clauses live) c
   pub apart : ContainsNoEarlier (reverse clauses)
+  -- no live clause contains another
+  pub minimal : (m k : ℕ) → Member m live → Member k live → Within (slice_index_or clauses m []) (slice_index_or clauses k []) → m ≡ k
 
 -- the least of the live numbers whose clauses are subsets of this clause
 pub record IsHeld (clauses : List (List Elem)) (live : List ℕ) (clause : List Elem) (i : ℕ) : Type 0 where

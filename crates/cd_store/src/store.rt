@@ -58,7 +58,8 @@ impl Store {
         &self.clauses
     }
 
-    /// The numbers of the live clauses, ascending. Every clause that was ever added has a live subset. Constant time.
+    /// The numbers of the live clauses, ascending. Every clause that was ever added has a live subset, and no live clause contains another.
+    /// Constant time.
     pub fn live(&self) -> &[usize]
         ensures value { result.now ≡ self.now.1 }
         ensures store { IsStore self.now.0 self.now.1 }
