@@ -86,7 +86,7 @@ pub owed_lawful : {A M : Type 0} (g : Meaning A M) (cells : List A) (i : ℕ) (a
 owed_lawful g cells i a x k law below at o =
     let l = law a x.0 x.1 (k.whole i a at) o in
     let b : x.0 < g.places a = below a x.0 x.1 l in let f : g.places a ≡ length cells = k.places i a at in
-    (omega arith, λ c j. k.family i x.0 a c at j x.0 x.1 l)
+    (omega arith, λ c j. k.lawful i x.0 a c at j x.0 x.1 l)
 
 -- what one cell lists, without what is had
 pub owed_of : {A M : Type 0} (g : Meaning A M) (cells : List A) (a : A) (owed part : List (ℕ × M)) → ((p : ℕ) (m : M) → Member (p, m) owed → g.owes a p m) → ((p : ℕ) (m : M) → g.owes a p m → Member (p, m) owed) → IsNotHadOf g cells owed part → IsOwedOf g cells a part

@@ -23,6 +23,8 @@ all_owed places ns = collect (owed places) ns
 -- what is known of a cell of numbers
 abbrev pub meaning : Meaning (ℕ × ℕ × List ℕ) ℕ
 meaning = record {
+  Family = ℕ;
+  family = λ v. v.1;
   place = λ v. v.0;
   places = λ v. v.1;
   lawful = λ v p m. p < v.1;

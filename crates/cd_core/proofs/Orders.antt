@@ -2,22 +2,22 @@
 use Rattle.std.proofs.Common.{ℕ, inl, inr, Bool, List, [], ◌∷◌, sym, subst}
 use Rattle.cd_base.specs.Lists.{Member}
 use Rattle.cd_actor.specs.Meaning.{Meaning}
-use Rattle.cd_actor.specs.Cells.{Had, HadOrPends, last}
-use Rattle.cd_core.specs.State.{Runs, KeepsAll}
+use Rattle.cd_actor.specs.Cells.{AreOf, Had, HadOrPends, last}
+use Rattle.cd_core.specs.State.{Runs, KeepsAll, KeepsFamily}
 use Rattle.cd_core.specs.Runs.{ComesTo, EveryOrder}
 use Rattle.cd_actor.proofs.Members.{member_left}
 
 -- steps keep what they keep one by one
-comes_keeps : {A M : Type 0} (g : Meaning A M) (choices : List ℕ) (old new : List A × List (ℕ × M) × Bool) → Runs g old.0 old.1 → ComesTo g choices old new → Runs g new.0 new.1 × KeepsAll g old.0 old.1 new.0 new.1
-comes_keeps g [] old new r h = (subst (λ v. Runs g v.0 v.1) (sym h) r, λ x k. subst (λ v. HadOrPends g v.0 v.1 x) (sym h) k)
-comes_keeps g (choice ∷ choices) old new r h = let k = comes_keeps g choices h.0 new h.1.sound h.2 in (k.0, λ x d. k.1 x (h.1.keeps x d))
+comes_keeps : {A M : Type 0} (g : Meaning A M) (choices : List ℕ) (old new : List A × List (ℕ × M) × Bool) → Runs g old.0 old.1 → ComesTo g choices old new → Runs g new.0 new.1 × KeepsAll g old.0 old.1 new.0 new.1 × KeepsFamily g old.0 new.0
+comes_keeps g [] old new r h = (subst (λ v. Runs g v.0 v.1) (sym h) r, λ x k. subst (λ v. HadOrPends g v.0 v.1 x) (sym h) k, λ f k. subst (λ v. AreOf g f v.0) (sym h) k)
+comes_keeps g (choice ∷ choices) old new r h = let k = comes_keeps g choices h.0 new h.1.sound h.2 in (k.0, λ x d. k.1 x (h.1.keeps x d), λ f d. k.2 f (h.1.family f d))
 
 -- where nothing pends, nothing that pended is lost
 pub every_order : {A M : Type 0} (g : Meaning A M) → EveryOrder g
 every_order {A = A} {M = M} g cells start choices first last b r c e =
-    (λ x i. none x (k.1 x (inr (subst (λ q. Member x q) (sym b.pending) (member_left start b.more x i)))), λ i a at p m o. none (p, m) (k.0.owed i a at p m o))
+    (k.0.cells_ok, λ f of. k.2 f (subst (λ cs. AreOf g f cs) (sym b.cells_are) of), λ x i. none x (k.1 x (inr (subst (λ q. Member x q) (sym b.pending) (member_left start b.more x i)))), λ i a at p m o. none (p, m) (k.0.owed i a at p m o))
   where
-    k : Runs g last.0 last.1 × KeepsAll g first.0 first.1 last.0 last.1
+    k : Runs g last.0 last.1 × KeepsAll g first.0 first.1 last.0 last.1 × KeepsFamily g first.0 last.0
     k = comes_keeps g choices first last r c
 
     none : (x : ℕ × M) → HadOrPends g last.0 last.1 x → Had g last.0 x

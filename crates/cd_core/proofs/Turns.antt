@@ -1,12 +1,12 @@
 -- A delivery keeps what a core keeps.
-use Rattle.std.proofs.Common.{◌≡◌, ℕ, zero, suc, ◌^◌, ◌+◌, ◌-◌, ◌<◌, ◌≤◌, ◌⊎◌, inl, inr, min, true, false, List, [], ◌∷◌, ◌++◌, length, get_or, set, remove, ap, sym, subst, arith, length-set}
+use Rattle.std.proofs.Common.{◌≡◌, ℕ, zero, suc, ◌^◌, ◌+◌, ◌-◌, ◌<◌, ◌≤◌, ◌⊎◌, inl, inr, min, true, false, List, [], ◌∷◌, ◌++◌, length, get_or, set, remove, ap, sym, ◌∙◌, subst, arith, length-set}
 use Rattle.std.specs.List.{sum_by}
 use Rattle.std.proofs.lemmas.Bool.{cases_Bool}
 use Rattle.std.proofs.lemmas.List.Sums.{sum_by-set, sum_by-cons}
 use Rattle.cd_base.specs.Lists.{Member}
 use Rattle.cd_actor.specs.Meaning.{HasRisen, Meaning, Keeps, Delivers}
 use Rattle.cd_actor.specs.Cells.{At, IsLawful, Had, HadOrPends, IsOwedCovered, last, total}
-use Rattle.cd_core.specs.State.{Runs, KeepsAll, KeepsHad}
+use Rattle.cd_core.specs.State.{Runs, KeepsAll, KeepsFamily, KeepsHad}
 use Rattle.cd_core.specs.Ends.{IsEnd}
 use Rattle.cd_actor.proofs.Members.{member_left, member_right, member_parts}
 use Rattle.cd_actor.proofs.At.{at_below, at_one, at_of_set, at_to_set, at_same, at_some, at_get, remove_to, remove_from, at_member}
@@ -50,8 +50,16 @@ module _ {A M : Type 0} (g : Meaning A M) (below : (a : A) (p : ℕ) (m : M) →
   lawful_as : (i : ℕ) (x : A) → At (set cells p b) i x → (q : ℕ) (n : M) → (g.lawful x q n → g.lawful a q n) × (g.lawful a q n → g.lawful x q n)
   lawful_as i x h q n = elim (cases_at i x h) [
     | inl e ↦ (λ l. (k.lawful q n).0 (subst (λ c. g.lawful c q n) e.1 l), λ l. subst (λ c. g.lawful c q n) (sym e.1) ((k.lawful q n).1 l))
-    | inr e ↦ (r.cells_ok.family i p x a e at q n, r.cells_ok.family p i a x at e q n)
+    | inr e ↦ (r.cells_ok.lawful i p x a e at q n, r.cells_ok.lawful p i a x at e q n)
   ]
+
+  -- each cell after the turn is of the family of the cell that took the message
+  family_as : (i : ℕ) (x : A) → At (set cells p b) i x → g.family x ≡ g.family a
+  family_as i x h = elim (cases_at i x h) [ inl e ↦ ap g.family e.1 ∙ k.family | inr e ↦ r.cells_ok.family i p x a e at ]
+
+  -- the cells stay of their family
+  pub turn_family : KeepsFamily g cells (set cells p b)
+  turn_family f of i x h = family_as i x h ∙ of p a at
 
   whole_step : (i : ℕ) (x : A) → At (set cells p b) i x → g.whole x
   whole_step i x h = elim (cases_at i x h) [ inl e ↦ subst g.whole (sym e.1) d.whole | inr e ↦ r.cells_ok.whole i x e ]
@@ -62,7 +70,7 @@ module _ {A M : Type 0} (g : Meaning A M) (below : (a : A) (p : ℕ) (m : M) →
       (omega arith, λ c i. (lawful_as x.0 c i x.0 x.1).1 l)
 
   lawful_at : (x : ℕ × M) → IsLawful g cells x → g.lawful a x.0 x.1
-  lawful_at x l = let c = at_some cells x.0 l.0 in r.cells_ok.family x.0 p c.0 a c.1 at x.0 x.1 (l.1 c.0 c.1)
+  lawful_at x l = let c = at_some cells x.0 l.0 in r.cells_ok.lawful x.0 p c.0 a c.1 at x.0 x.1 (l.1 c.0 c.1)
 
   lawful_step : (x : ℕ × M) → Member x (pending ++ out) → IsLawful g (set cells p b) x
   lawful_step x h = elim (member_parts pending out x h) [
@@ -79,7 +87,7 @@ module _ {A M : Type 0} (g : Meaning A M) (below : (a : A) (p : ℕ) (m : M) →
   -- the cells are whole cells of one family, and what pends is lawful and all that is owed
   pub turn_runs : Runs g (set cells p b) (pending ++ out)
   turn_runs = record {
-    cells_ok = record { place = place_step; places = places_step; family = λ i j x y hx hy q n l. (lawful_as j y hy q n).1 ((lawful_as i x hx q n).0 l); whole = whole_step };
+    cells_ok = record { place = place_step; places = places_step; family = λ i j x y hx hy. family_as i x hx ∙ sym (family_as j y hy); lawful = λ i j x y hx hy q n l. (lawful_as j y hy q n).1 ((lawful_as i x hx q n).0 l); whole = whole_step };
     lawful = lawful_step;
     owed = owed_step;
   }
@@ -113,10 +121,11 @@ rises g cells p m a b cs fs cb fb ca fa cn fn pending pending_new at k risen qui
     ]
 
 -- where nothing pends, all that was had or pended is had
-pub run_end : {A M : Type 0} (g : Meaning A M) (cells : List A) (pending : List (ℕ × M)) (after : List A) (rest : List (ℕ × M)) (max_contexts max_facts contexts facts : ℕ) → Runs g after rest → KeepsAll g cells pending after rest → rest ≡ []
+pub run_end : {A M : Type 0} (g : Meaning A M) (cells : List A) (pending : List (ℕ × M)) (after : List A) (rest : List (ℕ × M)) (max_contexts max_facts contexts facts : ℕ) → Runs g after rest → KeepsAll g cells pending after rest → KeepsFamily g cells after → rest ≡ []
     → contexts ≡ total g.contexts after → facts ≡ total g.facts after → contexts < max_contexts → facts < max_facts → IsEnd g cells pending max_contexts max_facts after
-run_end {M = M} g cells pending after rest mc mf cs fs r k e c f lc lf = record {
+run_end {M = M} g cells pending after rest mc mf cs fs r k of e c f lc lf = record {
   are_cells = r.cells_ok;
+  family = of;
   had = λ x h. none x (k x h);
   owed = λ i a at p m o. none (p, m) (r.owed i a at p m o);
   few_contexts = omega arith;

@@ -1,7 +1,7 @@
 //! Cores: cells and the messages that pend.
 ghost use Rattle.std.specs.Prelude.{◌≡◌, ℕ, List, Bool, true, false, length, IfOk, IfErr, OnOk, OnErr};
 ghost use Rattle.cd_actor.specs.Cells.{AreCells};
-ghost use Rattle.cd_core.specs.State.{Runs, KeepsAll, IsSound};
+ghost use Rattle.cd_core.specs.State.{Runs, KeepsAll, KeepsFamily, IsSound};
 ghost use Rattle.cd_core.specs.Begin.{AreAllLawful, IsBegun};
 ghost use Rattle.cd_core.specs.Steps.{IsStepOrEmpty};
 ghost use Rattle.cd_core.specs.Ends.{IsEnd, IsStop};
@@ -81,6 +81,7 @@ impl<A: Actor> Core<A> {
         A::Msg: Drop,
         ensures ok { IfOk result (λ step. IsStepOrEmpty A.meaning choice self.old self.new step) }
         ensures keeps { OnOk result (KeepsAll A.meaning self.old.0 self.old.1 self.new.0 self.new.1) }
+        ensures family { OnOk result (KeepsFamily A.meaning self.old.0 self.new.0) }
         ensures sound { OnOk result (Runs A.meaning self.new.0 self.new.1) }
         ensures stands { OnOk result (self.new.2 ≡ false) }
         ensures failed { OnErr result (self.new.2 ≡ true) }

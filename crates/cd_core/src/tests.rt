@@ -34,6 +34,8 @@ impl Actor for Numbers {
     type Msg = u32;
 
     ghost meaning = { record {
+      Family = ℕ;
+      family = λ c. c.1;
       place = λ c. c.0;
       places = λ c. c.1;
       lawful = λ c p m. p < c.1;

@@ -2,7 +2,7 @@
 ghost use Rattle.std.specs.Prelude.{◌≡◌, ◌+◌, ◌<◌, ◌≤◌, ◌⊎◌, ◌∷◌, ◌++◌, OnOk, IfOk, true, false, []};
 ghost use Rattle.cd_actor.specs.Sends.{sent};
 ghost use Rattle.cd_actor.specs.Cells.{total, last};
-ghost use Rattle.cd_core.specs.State.{Runs, KeepsAll, KeepsHad};
+ghost use Rattle.cd_core.specs.State.{Runs, KeepsAll, KeepsFamily, KeepsHad};
 ghost use Rattle.cd_core.specs.Steps.{IsTurn};
 
 use cd_actor::{Actor, Outbox};
@@ -27,6 +27,7 @@ pub(crate) fn deliver_to<A: Actor>(
     ensures runs { OnOk result (Runs A.meaning cells.new.items pending.new) }
     ensures keeps { OnOk result (KeepsAll A.meaning cells.old.items ((cell, message) ∷ pending.old) cells.new.items pending.new) }
     ensures had { OnOk result (KeepsHad A.meaning cells.old.items cells.new.items) }
+    ensures family { OnOk result (KeepsFamily A.meaning cells.old.items cells.new.items) }
     ensures contexts { OnOk result (contexts.new ≡ total A.meaning.contexts cells.new.items) }
     ensures facts { OnOk result (facts.new ≡ total A.meaning.facts cells.new.items) }
     ensures more_contexts { OnOk result (contexts.old ≤ contexts.new) }
@@ -65,6 +66,7 @@ where
     ensures runs { OnOk result (Runs A.meaning cells.new.items pending.new) }
     ensures keeps { OnOk result (KeepsAll A.meaning cells.old.items pending.old cells.new.items pending.new) }
     ensures had { OnOk result (KeepsHad A.meaning cells.old.items cells.new.items) }
+    ensures family { OnOk result (KeepsFamily A.meaning cells.old.items cells.new.items) }
     ensures contexts { OnOk result (contexts.new ≡ total A.meaning.contexts cells.new.items) }
     ensures facts { OnOk result (facts.new ≡ total A.meaning.facts cells.new.items) }
     ensures more_contexts { OnOk result (contexts.old ≤ contexts.new) }

@@ -4,7 +4,7 @@ use Rattle.cd_actor.specs.Cells.{At}
 use Rattle.cd_core.specs.State.{Runs, KeepsAll}
 use Rattle.cd_actor.proofs.At.{at_index}
 use Rattle.cd_core.proofs.Lists.{sent_none}
-use Rattle.cd_core.proofs.Turns.{turn_had, turn_runs, turn_keeps, total_step, rises}
+use Rattle.cd_core.proofs.Turns.{turn_had, turn_family, turn_runs, turn_keeps, total_step, rises}
 use Rattle.cd_core.proofs.turn.deliver_to.Goals as goal
 
 pub index_mut-actor-requires : goal.index_mut-actor-requires
@@ -43,6 +43,13 @@ returns-clause-had g c =
     let at : At c.args.cells.now.items c.args.cell c.index_mut-actor.result.now = at_index _ _ _ h c.index_mut-actor.ensures.value in
     let e = c.in_ok-deliver.ensures in
     turn_had g.A.Actor.meaning g.met.A.Actor.lawful_below _ _ _ _ _ _ _ c.requires.runs at e.keeps e.delivers e.sends.each
+
+pub returns-clause-family : goal.returns-clause-family
+returns-clause-family g c =
+    let h = (c.requires.runs.lawful (c.args.cell, c.args.message) (inl refl)).0 in
+    let at : At c.args.cells.now.items c.args.cell c.index_mut-actor.result.now = at_index _ _ _ h c.index_mut-actor.ensures.value in
+    let e = c.in_ok-deliver.ensures in
+    turn_family g.A.Actor.meaning g.met.A.Actor.lawful_below _ _ _ _ _ _ _ c.requires.runs at e.keeps e.delivers e.sends.each
 
 pub returns-clause-contexts : goal.returns-clause-contexts
 returns-clause-contexts g c =

@@ -1,4 +1,5 @@
-use Rattle.std.proofs.Common.{subst, arith}
+use Rattle.std.proofs.Common.{subst, sym, arith}
+use Rattle.cd_actor.specs.Cells.{AreOf, Had}
 use Rattle.cd_core.specs.Ends.{IsEnd}
 use Rattle.cd_core.proofs.Turns.{run_end}
 use Rattle.cd_core.proofs.cores.Core.finish.Goals as goal
@@ -8,6 +9,7 @@ rounds-preserved g c = record {
   runs = c.in-Ok-true.ensures.runs;
   keeps = λ x h. c.in-Ok-true.ensures.keeps x (c.rounds.invariant.keeps x h);
   had = λ x h. c.in-Ok-true.ensures.had x (c.rounds.invariant.had x h);
+  family = λ f of. c.in-Ok-true.ensures.family f (c.rounds.invariant.family f of);
   contexts = c.in-Ok-true.ensures.contexts;
   facts = c.in-Ok-true.ensures.facts;
 }
@@ -19,4 +21,19 @@ returns-in-Ok-false-clause-ok g c =
     let m = g.A.Actor.meaning in
     subst (λ v. IsEnd m v.0 v.1 c.args.limits.now.max_contexts c.args.limits.now.max_facts c.deliver_until_new.new.cells.items) c.self.view_is
     (run_end m c.self.inside.cells.items c.self.inside.pending c.deliver_until_new.new.cells.items c.deliver_until_new.new.pending c.args.limits.now.max_contexts c.args.limits.now.max_facts c.deliver_until_new.new.contexts c.deliver_until_new.new.facts
-    e.runs (λ x h. e.keeps x (c.rounds.invariant.keeps x h)) d.0 e.contexts e.facts (omega arith) (omega arith))
+    e.runs (λ x h. e.keeps x (c.rounds.invariant.keeps x h)) (λ f of. e.family f (c.rounds.invariant.family f of)) d.0 e.contexts e.facts (omega arith) (omega arith))
+
+pub returns-then-contexts-max_contexts-clause-stop :
+    goal.returns-then-contexts-max_contexts-clause-stop
+returns-then-contexts-max_contexts-clause-stop g c =
+    let m = g.A.Actor.meaning in
+    let i = c.rounds.invariant in
+    let e = c.self.view_is in
+    (i.runs.cells_ok, λ x h. i.had x (subst (λ v. Had m v.0 x) (sym e) h), λ f of. i.family f (subst (λ v. AreOf m f v.0) (sym e) of), i.contexts, omega arith)
+
+pub returns-then-facts-max_facts-clause-stop : goal.returns-then-facts-max_facts-clause-stop
+returns-then-facts-max_facts-clause-stop g c =
+    let m = g.A.Actor.meaning in
+    let i = c.rounds.invariant in
+    let e = c.self.view_is in
+    (i.runs.cells_ok, λ x h. i.had x (subst (λ v. Had m v.0 x) (sym e) h), λ f of. i.family f (subst (λ v. AreOf m f v.0) (sym e) of), i.facts, omega arith, omega arith)

@@ -1,6 +1,6 @@
 use Rattle.std.proofs.Common.{◌≡◌, ◌<◌, ◌%◌, length, remove, ◌++◌, subst, sym, arith, ap, ◌∙◌}
 use Rattle.cd_actor.specs.Sends.{sent}
-use Rattle.cd_actor.specs.Cells.{At, HadOrPends}
+use Rattle.cd_actor.specs.Cells.{At, AreOf, HadOrPends}
 use Rattle.cd_core.specs.Steps.{IsStep}
 use Rattle.cd_actor.proofs.At.{at_index}
 use Rattle.cd_core.proofs.Turns.{runs_taken, keeps_taken}
@@ -18,6 +18,9 @@ returns-clause-keeps g c x h =
     let at : At c.self.inside.pending (c.args.choice % c.len-count.result) (c.in-Some.cell, c.in-Some.message) = at_index c.self.inside.pending _ (c.in-Some.cell, c.in-Some.message) l c.in-Some.ensures.0 in
     let h2 : HadOrPends g.A.Actor.meaning c.self.inside.cells.items c.self.inside.pending x = subst (λ v. HadOrPends g.A.Actor.meaning v.0 v.1 x) (sym c.self.view_is) h in
     c.in_ok-deliver_to.ensures.keeps x (keeps_taken g.A.Actor.meaning c.self.inside.cells.items c.self.inside.pending _ (c.in-Some.cell, c.in-Some.message) c.take_at.new.self at c.in-Some.ensures.1 x h2)
+
+pub returns-clause-family : goal.returns-clause-family
+returns-clause-family g c f of = c.in_ok-deliver_to.ensures.family f (subst (λ v. AreOf g.A.Actor.meaning f v.0) (sym c.self.view_is) of)
 
 pub returns-clause-ok : goal.returns-clause-ok
 returns-clause-ok g c =
