@@ -17,6 +17,7 @@ pub mod ReadBackLines
 pub mod ReadBackSound
 pub mod RepresentativeByCount
 pub mod RisingLists
+pub mod SummaryOfRelation
 pub mod SuperclassCounts
 pub mod SuperclassLists
 pub mod Uncovered

@@ -4,3 +4,4 @@ pub mod Lines
 pub mod ReadBack
 pub mod Relation
 pub mod Steps
+pub mod Summary

@@ -19,3 +19,16 @@ pub struct Taxonomy {
     /// The groups of all classes, in the order of the bytes of their representatives' names. A group's number is its index here.
     pub groups: Seq<Group>,
 }
+
+/// How much a taxonomy says: the answer of `summary`, which `summary_text` prints.
+#[derive(Clone, Copy, Debug, PartialEq, Eq)]
+pub struct Summary {
+    /// The named classes, with owl:Thing and owl:Nothing.
+    pub names: u64,
+    /// The groups of equivalent classes.
+    pub groups: u64,
+    /// The classes other than owl:Nothing that can have no member.
+    pub unsatisfiable: u64,
+    /// The `SubClassOf` lines that `text` prints.
+    pub links: u64,
+}

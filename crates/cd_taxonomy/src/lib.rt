@@ -14,6 +14,7 @@
 //!   superclasses than the upper one, so it came before. What lies above a covered group is covered as well, since the relation is
 //!   transitive, so that only the answers of direct superclasses are read.
 //! - `hierarchy` puts these steps together, and `printing` writes the lines.
+//! - `totals` counts what a taxonomy has.
 //!
 //! Nothing here asks where the answers come from: they only have to list classes of the document, and to give a relation that is
 //! reflexive and transitive, with owl:Thing above all classes and owl:Nothing below all.
@@ -27,7 +28,11 @@ mod order;
 mod parents;
 mod printing;
 mod representatives;
+#[cfg(test)]
+mod tests;
+mod totals;
 
-pub use groups::{Group, Taxonomy};
+pub use groups::{Group, Summary, Taxonomy};
 pub use hierarchy::taxonomy;
 pub use printing::text;
+pub use totals::{summary, summary_text};

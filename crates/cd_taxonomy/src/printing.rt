@@ -76,7 +76,7 @@ fn push_subclass_lines(
 }
 
 /// Whether owl:Thing or owl:Nothing is among the classes. Linear.
-fn has_reserved(classes: &[u32]) -> bool
+pub(crate) fn has_reserved(classes: &[u32]) -> bool
     ensures { result ≡ list_any is_reserved classes.now }
 {
     classes.iter().any(|class| *class < 2)

@@ -1,0 +1,4 @@
+pub mod GeneratedAxioms
+pub mod GeneratedDocument
+pub mod GeneratedNames
+pub mod Levels

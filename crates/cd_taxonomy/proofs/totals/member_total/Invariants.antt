@@ -1,0 +1,6 @@
+use Rattle.std.proofs.Common.{◌≡◌, ◌≤◌, ◌*◌, ◌^◌, take}
+use Rattle.cd_taxonomy.specs.Summary.{member_total}
+use Rattle.cd_taxonomy.proofs.totals.member_total.Given as goal
+
+abbrev pub invariant-loop-group : goal.invariant-loop-group
+invariant-loop-group l = record { so_far : l.total ≡ member_total (take l.group-index l.groups); small : l.total ≤ l.group-index * 2 ^ 32 }
