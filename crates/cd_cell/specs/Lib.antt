@@ -1,4 +1,11 @@
 pub mod Canonical
+pub mod Cells
 pub mod Closed
+pub mod ClosedCells
+pub mod Counts
 pub mod Exactness
+pub mod Lawful
 pub mod Saturated
+pub mod Sending
+pub mod Subsumers
+pub mod Telling

@@ -1,14 +1,28 @@
-//! What contexts say of a document once nothing is owed: laws on contexts, by the canonical finite model.
+//! Cells: the contexts of the keys that have one place among so many, and what they say of a document once nothing is owed.
 //!
-//! Contexts that are closed, and that owe each other nothing that is not had, are saturated: each conclusion of every rule is redundant
-//! (`closed_is_saturated`). Saturated contexts have a finite model, whose elements are the contexts without the empty clause
-//! (`contexts_have_a_model`). So what the context of a named atom says is exact (`answers_are_exact`). The cells that keep such contexts are
-//! not built yet.
+//! A cell (`cell`) is an actor whose messages are notes. It tells each note to the context of its key, which begins where there is none
+//! (`contexts`), and sends what that context came to owe to the cells of the keys (`sending`). What it says of a named class is read off
+//! the live clauses of the context of that class alone (`answers`).
+//!
+//! The laws below say why that is right. Contexts that are closed, and that owe each other nothing that is not had, are saturated: each
+//! conclusion of every rule is redundant (`closed_is_saturated`). Saturated contexts have a finite model, whose elements are the contexts
+//! without the empty clause (`contexts_have_a_model`). So what the context of a named atom says is exact (`answers_are_exact`).
 #![tactic(auto)]
+
+mod answers;
+mod cell;
+mod contexts;
+mod sending;
+#[cfg(test)]
+mod tests;
 
 ghost use Rattle.cd_cell.specs.Canonical.{Completeness};
 ghost use Rattle.cd_cell.specs.Closed.{Saturation};
+ghost use Rattle.cd_cell.specs.ClosedCells.{CellExactness};
+ghost use Rattle.cd_cell.specs.Counts.{CellCounts};
 ghost use Rattle.cd_cell.specs.Exactness.{Exactness};
+
+pub use cell::Cell;
 
 /// Where the contexts of some keys are closed and each note that one of them owes is had, every conclusion of every rule from their live
 /// clauses is redundant in its context, and the key of each eligible existential has a context.
@@ -28,4 +42,14 @@ pub fn contexts_have_a_model()
 /// every finite model.
 pub fn answers_are_exact()
     ensures { Exactness }
+{}
+
+/// In whole cells where each note that one of them owes is had, the context of each atom is exact, as above.
+pub fn cells_are_exact()
+    ensures { CellExactness }
+{}
+
+/// The counts of whole cells are no more than they have contexts of distinct keys, and facts in these.
+pub fn counts_are_had()
+    ensures { CellCounts }
 {}

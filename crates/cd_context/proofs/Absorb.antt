@@ -1,8 +1,11 @@
 -- A context takes a fact.
-use Rattle.std.proofs.Common.{◌≡◌, ℕ, inl, inr, List, [], ◌∷◌, ◌++◌, length, filter, nat_lt, refl, sym, subst, arith}
-use Rattle.cd_base.specs.Lists.{Member}
+use Rattle.std.proofs.Common.{◌≡◌, ◌==◌, ◌&&◌, ◌∙◌, true, false, ℕ, inl, inr, List, [], ◌∷◌, ◌++◌, length, filter, nat_lt, refl, sym, subst, arith}
+use Rattle.cd_base.specs.Lists.{Member, IsApart}
 use Rattle.cd_base.specs.declared.normal.Normal.{Normal}
-use Rattle.cd_base.proofs.Members.{member_left, member_cases}
+use Rattle.cd_base.proofs.Members.{member_left, member_cases, any_by_member}
+use Rattle.std.proofs.lemmas.Bool.{and_from, false≢true, eq-eqb}
+use Rattle.std.proofs.lemmas.Cmp.{nat_list_eq_equiv}
+use Rattle.cd_context.specs.Facts.{has_fact, same_key}
 use Rattle.cd_clause.specs.declared.elem.Elem.{Elem}
 use Rattle.cd_rules.specs.declared.facts.BackFact.{BackFact}
 use Rattle.cd_rules.specs.declared.facts.DeadFact.{DeadFact}
@@ -32,6 +35,34 @@ each_with {X} P old new f e h p x m = elim (member_cases x old (f ∷ []) (subst
 pub joined : {X : Type 0} (old new : List X) (f : X) → new ≡ old ++ f ∷ [] → (x : X) → Member x old → Member x new
 joined old new f e x m = subst (λ w. Member x w) (sym e) (member_left x old (f ∷ []) m)
 
+-- of facts that stand once, with one more that is new
+once_with : {X : Type 0} (old new : List X) (f : X) → new ≡ old ++ f ∷ [] → IsApart old → (Member f old → ⊥) → IsApart new
+once_with {X} old new f e a fresh = subst IsApart (sym e) (apart_more old a fresh)
+  where
+    apart_more : (xs : List X) → IsApart xs → (Member f xs → ⊥) → IsApart (xs ++ f ∷ [])
+    apart_more [] a h = (λ m. m, tt)
+    apart_more (x ∷ xs) a h = (
+      λ m. elim (member_cases x xs (f ∷ []) m) [ inl k ↦ a.0 k | inr k ↦ elim k [ inl q ↦ h (inl (sym q)) | inr z ↦ absurd z ] ],
+      apart_more xs a.1 (λ m. h (inr m)),
+    )
+
+same_self : (k : List ℕ) → same_key k k ≡ true
+same_self k = nat_list_eq_equiv.refl k
+
+-- a fact that is not had is not listed
+new_link : (s : State) (f : LinkFact) → has_fact s (Link f.key f.role) ≡ false → Member f s.links → ⊥
+new_link s f h m = false≢true (sym h ∙ any_by_member (λ (g : LinkFact). same_key f.key g.key && f.role == g.role) s.links f m
+    (and_from (same_key f.key f.key) (f.role == f.role) (same_self f.key) (eq-eqb f.role f.role refl)))
+
+new_back : (s : State) (f : BackFact) → has_fact s (Back f.role f.key f.atom) ≡ false → Member f s.backs → ⊥
+new_back s f h m = false≢true (sym h ∙ any_by_member (λ (g : BackFact). f.role == g.role && (same_key f.key g.key && f.atom == g.atom)) s.backs f m
+    (and_from (f.role == f.role) (same_key f.key f.key && f.atom == f.atom) (eq-eqb f.role f.role refl)
+    (and_from (same_key f.key f.key) (f.atom == f.atom) (same_self f.key) (eq-eqb f.atom f.atom refl))))
+
+new_dead : (s : State) (f : DeadFact) → has_fact s (Dead f.role f.key) ≡ false → Member f s.deads → ⊥
+new_dead s f h m = false≢true (sym h ∙ any_by_member (λ (g : DeadFact). f.role == g.role && same_key f.key g.key) s.deads f m
+    (and_from (f.role == f.role) (same_key f.key f.key) (eq-eqb f.role f.role refl) (same_self f.key)))
+
 -- the old state under another name
 pub keeps_of : (n : Normal) (old old' new : State) → old ≡ old' → Keeps n old new → Keeps n old' new
 keeps_of n old old' new e k = subst (λ s. Keeps n s new) e k
@@ -40,7 +71,7 @@ pub absorbs_of : (n : Normal) (old old' : State) (fact : Fact) (new : State) (ou
 absorbs_of n old old' fact new out new_out e k = subst (λ s. Absorbs n s fact new out new_out) e k
 
 -- A link comes.
-module _ (n : Normal) (old : State) (f : LinkFact) (links : List LinkFact) (kept : IsContext n old) (closed : ClosedLocally n old) (just : Justified n old.key (Link f.key f.role)) (e : links ≡ old.links ++ f ∷ []) where
+module _ (n : Normal) (old : State) (f : LinkFact) (links : List LinkFact) (kept : IsContext n old) (closed : ClosedLocally n old) (just : Justified n old.key (Link f.key f.role)) (fresh : has_fact old (Link f.key f.role) ≡ false) (e : links ≡ old.links ++ f ∷ []) where
   abbrev with_link : State
   with_link = record { key = old.key; clauses = old.clauses; live = old.live; links = links; backs = old.backs; deads = old.deads }
 
@@ -54,6 +85,9 @@ module _ (n : Normal) (old : State) (f : LinkFact) (links : List LinkFact) (kept
       links = λ h r m. each_with (λ x. Justified n old.key (Link x.key x.role)) old.links links f e (λ x i. kept.links x.key x.role i) just (record { key = h; role = r }) m;
       backs = kept.backs;
       deads = kept.deads;
+      links_once = once_with old.links links f e kept.links_once (new_link old f fresh);
+      backs_once = kept.backs_once;
+      deads_once = kept.deads_once;
       in_turn = kept.in_turn;
       store = kept.store;
     };
@@ -70,7 +104,7 @@ module _ (n : Normal) (old : State) (f : LinkFact) (links : List LinkFact) (kept
   }
 
 -- A back comes.
-module _ (n : Normal) (old : State) (f : BackFact) (backs : List BackFact) (clauses : List (List Elem)) (live : List ℕ) (kept : IsContext n old) (just : Justified n old.key (Back f.role f.key f.atom)) (e : backs ≡ old.backs ++ f ∷ [])
+module _ (n : Normal) (old : State) (f : BackFact) (backs : List BackFact) (clauses : List (List Elem)) (live : List ℕ) (kept : IsContext n old) (just : Justified n old.key (Back f.role f.key f.atom)) (fresh : has_fact old (Back f.role f.key f.atom) ≡ false) (e : backs ≡ old.backs ++ f ∷ [])
     (in_turn : IsInTurn n old.key backs old.deads clauses) (store : IsStore clauses live) (continues : Continues (old.clauses, old.live) (clauses, live)) where
   abbrev with_back : State
   with_back = record { key = old.key; clauses = clauses; live = live; links = old.links; backs = backs; deads = old.deads }
@@ -85,6 +119,9 @@ module _ (n : Normal) (old : State) (f : BackFact) (backs : List BackFact) (clau
       links = kept.links;
       backs = λ r k a m. each_with (λ x. Justified n old.key (Back x.role x.key x.atom)) old.backs backs f e (λ x i. kept.backs x.role x.key x.atom i) just (record { role = r; key = k; atom = a }) m;
       deads = kept.deads;
+      links_once = kept.links_once;
+      backs_once = once_with old.backs backs f e kept.backs_once (new_back old f fresh);
+      deads_once = kept.deads_once;
       in_turn = in_turn;
       store = store;
     };
@@ -102,7 +139,7 @@ module _ (n : Normal) (old : State) (f : BackFact) (backs : List BackFact) (clau
   }
 
 -- A dead comes.
-module _ (n : Normal) (old : State) (f : DeadFact) (deads : List DeadFact) (clauses : List (List Elem)) (live : List ℕ) (kept : IsContext n old) (just : Justified n old.key (Dead f.role f.key)) (e : deads ≡ old.deads ++ f ∷ [])
+module _ (n : Normal) (old : State) (f : DeadFact) (deads : List DeadFact) (clauses : List (List Elem)) (live : List ℕ) (kept : IsContext n old) (just : Justified n old.key (Dead f.role f.key)) (fresh : has_fact old (Dead f.role f.key) ≡ false) (e : deads ≡ old.deads ++ f ∷ [])
     (in_turn : IsInTurn n old.key old.backs deads clauses) (store : IsStore clauses live) (continues : Continues (old.clauses, old.live) (clauses, live)) where
   abbrev with_dead : State
   with_dead = record { key = old.key; clauses = clauses; live = live; links = old.links; backs = old.backs; deads = deads }
@@ -117,6 +154,9 @@ module _ (n : Normal) (old : State) (f : DeadFact) (deads : List DeadFact) (clau
       links = kept.links;
       backs = kept.backs;
       deads = λ r k m. each_with (λ x. Justified n old.key (Dead x.role x.key)) old.deads deads f e (λ x i. kept.deads x.role x.key i) just (record { role = r; key = k }) m;
+      links_once = kept.links_once;
+      backs_once = kept.backs_once;
+      deads_once = once_with old.deads deads f e kept.deads_once (new_dead old f fresh);
       in_turn = in_turn;
       store = store;
     };

@@ -11,7 +11,7 @@ use Rattle.cd_store.specs.declared.store.Added.{Added}
 use Rattle.cd_store.specs.declared.store.Added.TheVariants.{New, Held}
 use Rattle.cd_store.proofs.Picks.{picked_in, picked_from}
 use Rattle.cd_context.specs.Justified.{IsInTurn}
-use Rattle.cd_context.specs.TakeUp.{Told, ClosedUpTo, IsTakenFrom, IsPutInto, IsWorking, TakesUpMore, Follows}
+use Rattle.cd_context.specs.TakeUp.{Told, ClosedUpTo, IsTakenFrom, IsPutInto, IsWorking, TakesUpMore, Stays, Follows}
 use Rattle.cd_context.proofs.TakeUps.{more_from, out_held, out_new}
 use Rattle.cd_context.proofs.Waits.{working_new, takes_up_new, concluded_more, in_turn_new}
 
@@ -44,6 +44,7 @@ pub record IsAdding (n : Normal) (key : List ℕ) (told : Told) (first : List (L
   pub working : IsWorking n key told store.0 waiting
   pub concluded : (o : List Elem) → Member o out → ConcludesFrom n key (λ c. Member c store.0) told.backs told.deads o
   pub takes_up : TakesUpMore first.0 first_waiting store.0 waiting
+  pub stays : Stays first.1 first_waiting store.1 waiting
   pub continues : Continues first store
 
 module _ (n : Normal) (key : List ℕ) (told : Told) (first : List (List Elem) × List ℕ) (fw : List ℕ) (old : List (List Elem) × List ℕ) (waiting : List ℕ) (items : List (List Elem)) (o : List Elem) (out : List (List Elem))
@@ -59,6 +60,7 @@ module _ (n : Normal) (key : List ℕ) (told : Told) (first : List (List Elem) �
         working = at.working;
         concluded = λ x m. at.concluded x (inr m);
         takes_up = at.takes_up;
+        stays = at.stays;
         continues = at.continues;
       }
 
@@ -71,6 +73,7 @@ module _ (n : Normal) (key : List ℕ) (told : Told) (first : List (List Elem) �
         working = working_new n key told old new waiting after o k at.working c h p;
         concluded = λ x m. concluded_more n key told old.0 new.0 o x h.stored (at.concluded x (inr m));
         takes_up = takes_up_new old new waiting after fw first.0 o k h p at.takes_up;
+        stays = λ i m w. elim (h.numbers i m) [ inl q ↦ absurd (w (p.isin i (inl q))) | inr r ↦ at.stays i r.0 (λ z. w (p.isin i (inr z))) ];
         continues = continues_trans first old new at.continues (continues_new old new o k h);
       }
 

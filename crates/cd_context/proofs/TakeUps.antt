@@ -1,14 +1,16 @@
 -- Taking up a stored clause, and adding the conclusions.
-use Rattle.std.proofs.Common.{◌≡◌, ℕ, ◌⊎◌, inl, inr, List, [], ◌∷◌, get_or, ap, sym, ◌∙◌, subst, arith}
+use Rattle.std.proofs.Common.{◌≡◌, ◌==◌, ℕ, ◌⊎◌, Bool, true, false, cond, inl, inr, List, [], ◌∷◌, get_or, refl, ap, sym, ◌∙◌, subst, arith, eq-eqb, eqb-true}
 use Rattle.std.proofs.lemmas.List.{get_or_append_left}
-use Rattle.std.proofs.lemmas.Bool.{cases_order}
+use Rattle.std.proofs.lemmas.Bool.{cases_order, false≢true}
 use Rattle.cd_base.specs.Lists.{Member, Within}
 use Rattle.cd_base.specs.declared.normal.Normal.{Normal}
+use Rattle.cd_base.proofs.Members.{any_by_member, any_member}
 use Rattle.cd_clause.specs.Derivations.{Redundant}
 use Rattle.cd_clause.specs.Numbers.{picked}
 use Rattle.cd_clause.specs.Rules.{Rests, Concludes, by_init, by_neg, by_con, by_ex, by_back, by_dead, by_all}
 use Rattle.cd_clause.specs.declared.elem.Elem.{Elem}
 use Rattle.cd_clause.proofs.Derive.{concludes_more}
+use Rattle.cd_index.specs.Index.{has}
 use Rattle.cd_rules.specs.Appends.{Among}
 use Rattle.cd_rules.specs.Facts.{ConcludesFrom, IsBack, IsDead, IsPicked}
 use Rattle.cd_rules.specs.Uses.{RestsUse, Uses, FromClause}
@@ -56,15 +58,43 @@ more_from n key told Has Has' d f q =
 pub redundant_among : (d : List Elem) (out : List (List Elem)) → Among d out → Redundant out d
 redundant_among d out a = (a.0, a.1, a.2.0)
 
-number_cases : (i j : ℕ) → (i ≡ j) ⊎ (i ≡ j → ⊥)
+pub number_cases : (i j : ℕ) → (i ≡ j) ⊎ (i ≡ j → ⊥)
 number_cases i j = elim (cases_order i j) [ inl e ↦ inl e | inr o ↦ inr (λ e. elim o [ inl l ↦ absurd (omega arith) | inr l ↦ absurd (omega arith) ]) ]
+
+-- the numbers that don't wait
+abbrev pub not_waiting : List ℕ → List ℕ → List ℕ
+not_waiting [] waiting = []
+not_waiting (k ∷ live) waiting = cond (has k waiting) (not_waiting live waiting) (k ∷ not_waiting live waiting)
+
+pub not_waiting_in : (live waiting : List ℕ) (k : ℕ) → Member k (not_waiting live waiting) → Member k live × (Member k waiting → ⊥)
+not_waiting_in [] waiting k m = absurd m
+not_waiting_in (j ∷ live) waiting k m = by (has j waiting) refl m (not_waiting_in live waiting k)
+  where
+    by : (b : Bool) → has j waiting ≡ b → Member k (cond b (not_waiting live waiting) (j ∷ not_waiting live waiting)) → (Member k (not_waiting live waiting) → Member k live × (Member k waiting → ⊥)) → Member k (j ∷ live) × (Member k waiting → ⊥)
+    by true e m h = let r = h m in (inr r.0, r.1)
+    by false e (inl q) h = (inl q, λ w. false≢true (sym e ∙ any_by_member (λ (a : ℕ). a == j) waiting j (subst (λ z. Member z waiting) q w) (eq-eqb j j refl)))
+    by false e (inr m) h = let r = h m in (inr r.0, r.1)
+
+in_not_waiting : (live waiting : List ℕ) (k : ℕ) → Member k live → (Member k waiting → ⊥) → Member k (not_waiting live waiting)
+in_not_waiting [] waiting k m n = absurd m
+in_not_waiting (j ∷ live) waiting k m n = by (has j waiting) refl m (in_not_waiting live waiting k)
+  where
+    by : (b : Bool) → has j waiting ≡ b → Member k (j ∷ live) → (Member k live → (Member k waiting → ⊥) → Member k (not_waiting live waiting)) → Member k (cond b (not_waiting live waiting) (j ∷ not_waiting live waiting))
+    by true e (inl q) h = let w = any_member (λ (a : ℕ). a == j) waiting e in absurd (n (subst (λ z. Member z waiting) (eqb-true w.0 j w.2 ∙ sym q) w.1))
+    by true e (inr m) h = h m n
+    by false e (inl q) h = inl q
+    by false e (inr m) h = inr (h m n)
 
 -- A turn: the number m is taken from those that wait, and `out` has the conclusions that use its clause.
 pub taken_live : (n : Normal) (key : List ℕ) (told : Told) (clauses : List (List Elem)) (live waiting after : List ℕ) (m : ℕ) (out : List (List Elem)) → ClosedUpTo n key told clauses live waiting []
-    → IsTakenFrom m waiting after → ((d : List Elem) → FromClause n key clauses live m told.backs told.deads d → Redundant out d) → ClosedUpTo n key told clauses live after out
+    → IsTakenFrom m waiting after → ((d : List Elem) → FromClause n key clauses (not_waiting live waiting) m told.backs told.deads d → Redundant out d) → ClosedUpTo n key told clauses live after out
 taken_live n key told clauses live waiting after m out closed taken every d q =
-    elim (split n key (IsTakenUp clauses live after) (IsPicked clauses (m ∷ live)) (IsTakenUp clauses live waiting) (IsBack told.backs) (IsDead told.deads) (get_or clauses m [])
-    (λ c h. inr (subst (λ x. Member x (picked clauses live)) (sym h.3) (picked_in clauses live h.0 h.1)))
+    elim (split n key (IsTakenUp clauses live after) (IsPicked clauses (m ∷ not_waiting live waiting)) (IsTakenUp clauses live waiting) (IsBack told.backs) (IsDead told.deads) (get_or clauses m [])
+    (λ c h. elim (number_cases h.0 m) [
+      | inl e ↦ inl (h.3 ∙ ap (λ i. get_or clauses i []) e)
+      | inr differ ↦ inr (subst (λ x. Member x (picked clauses (not_waiting live waiting))) (sym h.3) (picked_in clauses (not_waiting live waiting) h.0
+          (in_not_waiting live waiting h.0 h.1 (λ w. elim (taken.before h.0 w) [ inl e ↦ differ e | inr a ↦ h.2 a ]))))
+    ])
     (λ c h. elim (number_cases h.0 m) [
       | inl e ↦ inl (h.3 ∙ ap (λ i. get_or clauses i []) e)
       | inr differ ↦ inr (h.0, h.1, (λ w. elim (taken.before h.0 w) [ inl e ↦ differ e | inr a ↦ h.2 a ]), h.3)

@@ -1,6 +1,6 @@
 -- When a fact may come to a context, and what a context then keeps.
 use Rattle.std.specs.Prelude.{◌≡◌, ℕ, true, List, [], ◌∷◌, reverse}
-use Rattle.cd_base.specs.Lists.{Member}
+use Rattle.cd_base.specs.Lists.{Member, IsApart}
 use Rattle.cd_base.specs.Keys.{plain, is_named}
 use Rattle.cd_base.specs.declared.normal.Normal.{Normal}
 use Rattle.cd_clause.specs.declared.elem.Elem.{Elem}
@@ -32,13 +32,16 @@ StoredInTurn n key backs deads (c ∷ cs) = ConcludesFrom n key (λ d. Member d 
 abbrev pub IsInTurn : Normal → List ℕ → List BackFact → List DeadFact → List (List Elem) → Type 0
 IsInTurn n key backs deads clauses = StoredInTurn n key backs deads (reverse clauses)
 
--- what a context keeps at every moment, also after want of memory: it can be reached, each fact but `Start` is justified, each clause is
--- concluded from what was there before it, and none contains one stored before it
+-- what a context keeps at every moment, also after want of memory: it can be reached, each fact but `Start` is justified and stands once,
+-- each clause is concluded from what was there before it, and none contains one stored before it
 pub record IsContext (n : Normal) (s : State) : Type 0 where
   pub reachable : Reachable n s.key
   pub links : (h : List ℕ) (r : ℕ) → Member (record { key = h; role = r }) s.links → Justified n s.key (Link h r)
   pub backs : (r : ℕ) (k : List ℕ) (a : ℕ) → Member (record { role = r; key = k; atom = a }) s.backs → Justified n s.key (Back r k a)
   pub deads : (r : ℕ) (k : List ℕ) → Member (record { role = r; key = k }) s.deads → Justified n s.key (Dead r k)
+  pub links_once : IsApart s.links
+  pub backs_once : IsApart s.backs
+  pub deads_once : IsApart s.deads
   pub in_turn : IsInTurn n s.key s.backs s.deads s.clauses
   pub store : IsStore s.clauses s.live
 

@@ -1,8 +1,10 @@
 pub mod Absorbing
+pub mod Beside
 pub mod Calls
 pub mod FactLists
 pub mod FactWrites
 pub mod Facts
+pub mod Filing
 pub mod Justified
 pub mod Noting
 pub mod Once

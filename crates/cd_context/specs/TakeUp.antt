@@ -46,6 +46,10 @@ pub record IsWorking (n : Normal) (key : List ℕ) (told : Told) (clauses : List
 abbrev pub TakesUpMore : List (List Elem) → List ℕ → List (List Elem) → List ℕ → Type 0
 TakesUpMore clauses waiting clauses_new waiting_new = length clauses - length waiting ≤ length clauses_new - length waiting_new
 
+-- each live number that doesn't wait was live before, and didn't wait
+abbrev pub Stays : List ℕ → List ℕ → List ℕ → List ℕ → Type 0
+Stays live waiting live_new waiting_new = (k : ℕ) → Member k live_new → (Member k waiting_new → ⊥) → Member k live × (Member k waiting → ⊥)
+
 -- the clauses are those of before, with more of them or not
 abbrev pub Follows : List (List Elem) → List (List Elem) → Type 0
 Follows old new = (more : List (List Elem)) × (new ≡ old ++ more)

@@ -1,13 +1,18 @@
 //! Closing a context under its rules.
-ghost use Rattle.std.specs.Prelude.{◌≡◌, ◌<◌, ◌↔◌, ℕ, [], List, length, true, OnOk};
+ghost use Rattle.std.specs.Prelude.{◌<◌, ℕ, [], List, length, slice_index_or, IfOk, OnOk};
 ghost use Rattle.cd_base.specs.Lists.{Member};
 ghost use Rattle.cd_clause.specs.declared.elem.Elem.{Elem};
 ghost use Rattle.cd_rules.specs.Facts.{ConcludesFrom};
 ghost use Rattle.cd_store.specs.Store.{IsAscending, IsStore};
+ghost use Rattle.cd_context.specs.Beside.{HasConcluded};
+ghost use Rattle.cd_context.specs.Filing.{AreFiled, AreFiledBut, IsFiled, KeepsFiled};
 ghost use Rattle.cd_context.specs.Justified.{IsInTurn};
-ghost use Rattle.cd_context.specs.TakeUp.{ClosedUpTo, IsWorking, TakesUpMore, Follows};
+ghost use Rattle.cd_context.specs.TakeUp.{ClosedUpTo, IsWorking, TakesUpMore, Stays, Follows};
 ghost use Rattle.cd_context.specs.Waits.{numbers};
 
+use crate::beside::beside;
+use crate::filing::Filing;
+use crate::live::is_among;
 use crate::waiting::Waiting;
 use cd_base::{Key, Memory};
 use cd_clause::Clause;
@@ -18,8 +23,8 @@ use std::alloc::Global;
 
 /// Adds the conclusions to a store that is closed but for them, and closes it again.
 ///
-/// The cost is that of adding each conclusion and of the rules for each clause that is taken up. After `Memory` the store has all that
-/// it had, and each of its clauses is concluded from those before it.
+/// The cost is that of `close`, and of adding each conclusion. After `Memory` the store has all that it had, each of its clauses is
+/// concluded from those before it, and some may not be filed.
 pub(crate) fn close_with(
     alloc: Global,
     index: &Index,
@@ -27,18 +32,21 @@ pub(crate) fn close_with(
     backs: &[BackFact],
     deads: &[DeadFact],
     store: &mut Store,
+    filing: &mut Filing,
     conclusions: Vec<Clause>,
 ) -> Result<(), Memory>
     requires closed { ClosedUpTo index.now.normal key.now (record { backs = backs.now; deads = deads.now }) store.old.0 store.old.1 [] conclusions.items }
     requires in_turn { IsInTurn index.now.normal key.now backs.now deads.now store.old.0 }
     requires concluded { (d : List Elem) → Member d conclusions.items → ConcludesFrom index.now.normal key.now (λ c. Member c store.old.0) backs.now deads.now d }
+    requires filed { AreFiled filing.old store.old.0 store.old.1 }
+    ensures filed { OnOk result (AreFiled filing.new store.new.0 store.new.1) }
     ensures closed { OnOk result (ClosedUpTo index.now.normal key.now (record { backs = backs.now; deads = deads.now }) store.new.0 store.new.1 [] []) }
     ensures in_turn { IsInTurn index.now.normal key.now backs.now deads.now store.new.0 }
     ensures store { IsStore store.new.0 store.new.1 }
     ensures follows { Follows store.old.0 store.new.0 }
     ensures survivors { (k : ℕ) → Member k store.new.1 → k < length store.old.0 → Member k store.old.1 }
 {
-    let done = add_and_close(alloc, index, key, backs, deads, store, conclusions);
+    let done = add_and_close(alloc, index, key, backs, deads, store, filing, conclusions);
     // what every store keeps is said where its live numbers are lent
     let _live = store.live();
     done
@@ -52,16 +60,21 @@ fn add_and_close(
     backs: &[BackFact],
     deads: &[DeadFact],
     store: &mut Store,
+    filing: &mut Filing,
     conclusions: Vec<Clause>,
 ) -> Result<(), Memory>
     requires closed { ClosedUpTo index.now.normal key.now (record { backs = backs.now; deads = deads.now }) store.old.0 store.old.1 [] conclusions.items }
     requires in_turn { IsInTurn index.now.normal key.now backs.now deads.now store.old.0 }
     requires concluded { (d : List Elem) → Member d conclusions.items → ConcludesFrom index.now.normal key.now (λ c. Member c store.old.0) backs.now deads.now d }
+    requires filed { AreFiled filing.old store.old.0 store.old.1 }
+    ensures filed { OnOk result (AreFiled filing.new store.new.0 store.new.1) }
     ensures closed { OnOk result (ClosedUpTo index.now.normal key.now (record { backs = backs.now; deads = deads.now }) store.new.0 store.new.1 [] []) }
     ensures in_turn { IsInTurn index.now.normal key.now backs.now deads.now store.new.0 }
     ensures follows { Follows store.old.0 store.new.0 }
     ensures survivors { (k : ℕ) → Member k store.new.1 → k < length store.old.0 → Member k store.old.1 }
 {
+    // what every store keeps is said where its live numbers are lent
+    let _live = store.live();
     let mut waiting = Waiting::new(alloc);
     add_all(
         alloc,
@@ -73,7 +86,7 @@ fn add_and_close(
         &mut waiting,
         conclusions,
     )?;
-    close(alloc, index, key, backs, deads, store, &mut waiting)
+    close(alloc, index, key, backs, deads, store, filing, &mut waiting)
 }
 
 /// Adds the conclusions. Those that are new wait. The cost is that of adding each to the store.
@@ -95,6 +108,7 @@ fn add_all(
     ensures in_turn { IsInTurn index.now.normal key.now backs.now deads.now store.new.0 }
     ensures follows { Follows store.old.0 store.new.0 }
     ensures survivors { (k : ℕ) → Member k store.new.1 → k < length store.old.0 → Member k store.old.1 }
+    ensures stays { OnOk result (Stays store.old.1 (numbers waiting.old) store.new.1 (numbers waiting.new)) }
     ensures takes_up { OnOk result (TakesUpMore store.old.0 (numbers waiting.old) store.new.0 (numbers waiting.new)) }
 {
     'conclusions: for conclusion in conclusions {
@@ -107,8 +121,10 @@ fn add_all(
     Ok(())
 }
 
-/// Takes up what waits, the shortest first, until every conclusion is redundant. A clause that died while it waited is skipped. Each
-/// clause that is taken up costs what the rules cost for it.
+/// Takes up what waits, the shortest first, until every conclusion is redundant. A clause that died while it waited is skipped.
+///
+/// Each clause that is taken up costs what the rules cost for it, with those clauses alone that can be of use beside it (`beside`), and
+/// what adding the conclusions costs.
 fn close(
     alloc: Global,
     index: &Index,
@@ -116,10 +132,13 @@ fn close(
     backs: &[BackFact],
     deads: &[DeadFact],
     store: &mut Store,
+    filing: &mut Filing,
     waiting: &mut Waiting,
 ) -> Result<(), Memory>
     requires closed { ClosedUpTo index.now.normal key.now (record { backs = backs.now; deads = deads.now }) store.old.0 store.old.1 (numbers waiting.old) [] }
     requires working { IsWorking index.now.normal key.now (record { backs = backs.now; deads = deads.now }) store.old.0 (numbers waiting.old) }
+    requires filed { AreFiledBut filing.old store.old.0 store.old.1 (numbers waiting.old) }
+    ensures filed { OnOk result (AreFiled filing.new store.new.0 store.new.1) }
     ensures closed { OnOk result (ClosedUpTo index.now.normal key.now (record { backs = backs.now; deads = deads.now }) store.new.0 store.new.1 [] []) }
     ensures in_turn { IsInTurn index.now.normal key.now backs.now deads.now store.new.0 }
     ensures follows { Follows store.old.0 store.new.0 }
@@ -131,29 +150,51 @@ fn close(
         if !is_among(store.live(), number) {
             continue;
         }
-        let mut conclusions = Vec::new(alloc);
         let clauses = store.clauses();
         let live = store.live();
-        on_clause(
-            alloc,
-            index,
-            key,
-            clauses,
-            live,
-            number,
-            backs,
-            deads,
-            &mut conclusions,
+        let conclusions = conclude(
+            alloc, index, key, backs, deads, clauses, live, filing, number,
         )?;
         add_all(alloc, index, key, backs, deads, store, waiting, conclusions)?;
     }
     Ok(())
 }
 
-/// Whether the number is one of these, which ascend. Logarithmic in them.
-fn is_among(live: &[usize], number: usize) -> bool
-    requires { IsAscending live.now }
-    ensures { (result ≡ true) ↔ Member number live.now }
+/// Files the clause of this number, and concludes what its rules give with the other live clauses that are filed.
+///
+/// The cost is that of finding those that can be of use beside it, and of the rules with these.
+fn conclude(
+    alloc: Global,
+    index: &Index,
+    key: &Key,
+    backs: &[BackFact],
+    deads: &[DeadFact],
+    clauses: &[Clause],
+    live: &[usize],
+    filing: &mut Filing,
+    number: usize,
+) -> Result<Vec<Clause>, Memory>
+    requires in_range { (k : ℕ) → Member k live.now → k < length clauses.now }
+    requires ascends { IsAscending live.now }
+    requires number { number < length clauses.now }
+    ensures kept { KeepsFiled filing.old filing.new }
+    ensures filed { OnOk result (IsFiled filing.new number (slice_index_or clauses.now number [])) }
+    ensures only { IfOk result (λ conclusions. (d : List Elem) → Member d conclusions.items → ConcludesFrom index.now.normal key.now (λ c. Member c clauses.now) backs.now deads.now d) }
+    ensures every { IfOk result (λ conclusions. HasConcluded index.now.normal key.now (record { backs = backs.now; deads = deads.now }) filing.new clauses.now live.now number conclusions.items) }
 {
-    live.binary_search(&number).is_ok()
+    filing.file(alloc, number, &clauses[number])?;
+    let others = beside(alloc, index, filing, clauses, number, live)?;
+    let mut conclusions = Vec::new(alloc);
+    on_clause(
+        alloc,
+        index,
+        key,
+        clauses,
+        others.as_slice(),
+        number,
+        backs,
+        deads,
+        &mut conclusions,
+    )?;
+    Ok(conclusions)
 }

@@ -1,14 +1,16 @@
 //! What the live clauses are asked for.
-ghost use Rattle.std.specs.Prelude.{◌≡◌, ◌↔◌, ◌∷◌, [], true};
+ghost use Rattle.std.specs.Prelude.{◌≡◌, ◌↔◌, ◌⊎◌, ◌∷◌, ℕ, [], true, IfOk, OnOk, MatchOption};
+ghost use Rattle.std.specs.List.Sorted.{IsStrictlyIncreasing};
 ghost use Rattle.cd_base.specs.Lists.{Member, SameSet};
 ghost use Rattle.cd_clause.specs.Numbers.{picked};
 ghost use Rattle.cd_clause.specs.declared.elem.Elem.TheVariants.{Plain};
 ghost use Rattle.cd_context.specs.Calls.{IsSingle};
 ghost use Rattle.cd_context.specs.Only.{is_only};
-ghost use Rattle.cd_store.specs.Store.{IsStore};
+ghost use Rattle.cd_store.specs.Store.{IsAscending, IsStore};
 
-use cd_base::Atom;
+use cd_base::{Atom, Memory};
 use cd_clause::{Clause, Elem};
+use std::alloc::Global;
 
 /// Whether the empty clause is one of these numbers. Constant time.
 pub(crate) fn has_empty(clauses: &[Clause], live: &[usize]) -> bool
@@ -55,4 +57,77 @@ fn is_only(elems: &[Elem], atom: Atom) -> bool
         [Elem::Plain(only)] => only.0 == atom.0,
         _ => false,
     }
+}
+
+/// The atoms alone in a clause of these numbers, ascending, each once. Linear in the numbers, and `n log n` in the atoms.
+pub(crate) fn singles(
+    alloc: Global,
+    clauses: &[Clause],
+    live: &[usize],
+) -> Result<Vec<Atom>, Memory>
+    requires { IsStore clauses.now live.now }
+    ensures exact { IfOk result (λ atoms. (b : ℕ) → Member b atoms.items ↔ IsSingle (picked clauses.now live.now) b) }
+    ensures ascends { IfOk result (λ atoms. IsStrictlyIncreasing atoms.items) }
+{
+    let mut numbers = Vec::new(alloc);
+    'numbers: for i in 0..live.len() {
+        let at = live[i];
+        push_single(&clauses[at], &mut numbers)?;
+    }
+    put_in_order(&mut numbers);
+    let atoms = atoms_of(alloc, numbers.as_slice())?;
+    Ok(atoms)
+}
+
+/// Appends the number of the atom that is alone in the clause, if one is. Constant time.
+fn push_single(clause: &Clause, numbers: &mut Vec<u32>) -> Result<(), Memory>
+    ensures { OnOk result ((b : ℕ) → Member b numbers.new.items ↔ (Member b numbers.old.items ⊎ SameSet clause.now (Plain b ∷ []))) }
+{
+    match only_atom(clause.elems()) {
+        Some(atom) => {
+            numbers.push(atom.number())?;
+        }
+        None => {}
+    }
+    Ok(())
+}
+
+/// The atom of which the list is made alone, if there is one. Constant time.
+fn only_atom(elems: &[Elem]) -> Option<Atom>
+    ensures { MatchOption result ((a : ℕ) → is_only a elems.now ≡ true → ⊥) (λ a. is_only a elems.now ≡ true) }
+{
+    match elems {
+        [Elem::Plain(only)] => Some(*only),
+        _ => None,
+    }
+}
+
+/// Puts the numbers in order, each once. `n log n`.
+fn put_in_order(numbers: &mut Vec<u32>)
+    ensures same { (b : ℕ) → Member b numbers.new.items ↔ Member b numbers.old.items }
+    ensures ascends { IsStrictlyIncreasing numbers.new.items }
+{
+    numbers.sort_unstable();
+    numbers.dedup();
+}
+
+/// The atoms of these numbers, in the same order. Linear in them.
+fn atoms_of(alloc: Global, numbers: &[u32]) -> Result<Vec<Atom>, Memory>
+    ensures { IfOk result (λ atoms. atoms.items ≡ numbers.now) }
+{
+    let mut atoms = Vec::new(alloc);
+    let mut rest = numbers;
+    'numbers: while let [number, others @ ..] = rest {
+        atoms.push(Atom(*number))?;
+        rest = others;
+    }
+    Ok(atoms)
+}
+
+/// Whether the number is one of these, which ascend. Logarithmic in them.
+pub(crate) fn is_among(live: &[usize], number: usize) -> bool
+    requires { IsAscending live.now }
+    ensures { (result ≡ true) ↔ Member number live.now }
+{
+    live.binary_search(&number).is_ok()
 }

@@ -1,6 +1,8 @@
 //! Look-ups of any atom or role. One that is out of range stands in no axiom.
-ghost use Rattle.std.specs.Prelude.{◌≡◌, ◌↔◌, true};
+ghost use Rattle.std.specs.Prelude.{◌≡◌, ◌<◌, ◌↔◌, true};
 ghost use Rattle.cd_base.specs.Normal.{Under};
+ghost use Rattle.cd_index.specs.Index.{IsFiling};
+ghost use Rattle.cd_rules.specs.LookUps.{filed_at, AreNumbers, HasAllWith};
 ghost use Rattle.cd_context.specs.Parts.{AreAtAtom};
 
 use cd_base::{Atom, Role, Triple};
@@ -13,6 +15,45 @@ pub(crate) fn backs_of<'a>(index: &'a Index, atom: Atom) -> &'a [Triple]
     let normal = index.normal();
     if atom.0 < normal.atoms {
         index.backs(atom)
+    } else {
+        &[]
+    }
+}
+
+/// The axioms of `n4` with this atom. Constant time.
+pub(crate) fn alls<'a>(index: &'a Index, atom: Atom) -> &'a [Triple]
+    ensures { AreAtAtom index.now.normal.n4 atom result.now }
+{
+    let normal = index.normal();
+    if atom.0 < normal.atoms {
+        index.alls(atom)
+    } else {
+        &[]
+    }
+}
+
+/// The numbers of the axioms of `n1` with this atom on the left. Constant time.
+pub(crate) fn with_left<'a>(index: &'a Index, atom: Atom) -> &'a [usize]
+    ensures numbers { AreNumbers index.now.normal.n1 result.now }
+    ensures every { HasAllWith index.now.normal.n1 atom result.now }
+{
+    let normal = index.normal();
+    if atom.0 < normal.atoms {
+        index.with_left(atom)
+    } else {
+        &[]
+    }
+}
+
+/// The numbers of the axioms of `n1` that are filed under this atom. Constant time.
+pub(crate) fn filed<'a>(index: &'a Index, atom: Atom) -> &'a [usize]
+    ensures numbers { AreNumbers index.now.normal.n1 result.now }
+    ensures list { result.now ≡ filed_at index.now.filed index.now.normal.atoms atom }
+    ensures filing { atom < index.now.normal.atoms → IsFiling index.now.normal.n1 index.now.normal.atoms index.now.filed }
+{
+    let normal = index.normal();
+    if atom.0 < normal.atoms {
+        index.filed(atom)
     } else {
         &[]
     }

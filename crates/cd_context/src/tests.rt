@@ -1,10 +1,12 @@
 //! A context over a small index. Expected values are written by hand.
 ghost use Rattle.std.specs.Prelude.{◌≡◌, ◌∷◌, [], true, IfOk, IsTrue, List};
 ghost use Rattle.std.specs.List.{list_all};
-ghost use Rattle.cd_base.specs.Keys.{is_named};
+ghost use Rattle.cd_base.specs.Keys.{is_named, plain};
+ghost use Rattle.cd_base.specs.Lists.{Member};
 ghost use Rattle.cd_base.specs.Normal.{has_atoms_below};
 ghost use Rattle.cd_base.specs.declared.normal.Conj.{Conj};
 ghost use Rattle.cd_base.specs.declared.normal.Normal.{Normal};
+ghost use Rattle.cd_context.specs.Justified.{IsContext, ClosedLocally};
 
 use crate::{Context, Note};
 use cd_base::{Atom, Conj, Key, Memory, Normal, Role, Seq, Triple};
@@ -59,6 +61,8 @@ fn three_axioms(alloc: Global) -> Result<Seq<Conj>, Memory>
 fn six_atoms(alloc: Global) -> Result<Normal, Memory>
     ensures range { IfOk result (λ (normal : Normal). (normal.atoms ≡ 6) × (normal.roles ≡ 1) × (normal.n5 ≡ [])) }
     ensures named { IfOk result (λ (normal : Normal). is_named normal 2 ≡ true) }
+    ensures edge { IfOk result (λ (normal : Normal). Member (record { atom = 2; role = 0; other = 4 }) normal.n2) }
+    ensures back { IfOk result (λ (normal : Normal). Member (record { atom = 4; role = 0; other = 5 }) normal.n3) }
 {
     let n1 = three_axioms(alloc)?;
     let named = vec![in alloc; true, true, true, true, true, true]?;
@@ -76,9 +80,62 @@ fn six_atoms(alloc: Global) -> Result<Normal, Memory>
     })
 }
 
-/// The index of `six_atoms`.
-fn hand_made(alloc: Global) -> Result<Index, Memory>
+fn two_atoms(alloc: Global) -> Result<Seq<Atom>, Memory>
+    ensures { IfOk result (λ atoms. atoms ≡ 0 ∷ 2 ∷ []) }
+{
+    Ok(Seq::of(vec![in alloc; Atom(0), Atom(2)]?))
+}
+
+/// `-> 0` and `0 2 -> 3`.
+fn two_axioms(alloc: Global) -> Result<Seq<Conj>, Memory>
+    ensures { IfOk result (λ (axioms : List Conj). IsTrue (list_all (has_atoms_below 6) axioms)) }
+{
+    let always = Conj {
+        left: no_atoms(alloc),
+        right: one_atom(alloc, 0)?,
+    };
+    let both = Conj {
+        left: two_atoms(alloc)?,
+        right: one_atom(alloc, 3)?,
+    };
+    Ok(Seq::of(vec![in alloc; always, both]?))
+}
+
+/// Six classes, one role, these axioms, an edge from each 2 to a 4, and every edge from a 3 goes to a 5.
+fn with_a_universal(alloc: Global) -> Result<Normal, Memory>
+    ensures range { IfOk result (λ (normal : Normal). (normal.atoms ≡ 6) × (normal.roles ≡ 1) × (normal.n5 ≡ [])) }
+    ensures named { IfOk result (λ (normal : Normal). is_named normal 2 ≡ true) }
+{
+    let n1 = two_axioms(alloc)?;
+    let named = vec![in alloc; true, true, true, true, true, true]?;
+    let n2 = vec![in alloc; triple(2, 4)]?;
+    let n4 = vec![in alloc; triple(3, 5)]?;
+    Ok(Normal {
+        atoms: 6,
+        named: Seq::of(named),
+        roles: 1,
+        n1,
+        n2: Seq::of(n2),
+        n3: Seq::of(Vec::new(alloc)),
+        n4: Seq::of(n4),
+        n5: Seq::of(Vec::new(alloc)),
+    })
+}
+
+/// The index of `with_a_universal`.
+fn universal_index(alloc: Global) -> Result<Index, Memory>
     ensures { IfOk result (λ index. is_named index.normal 2 ≡ true) }
+{
+    let normal = with_a_universal(alloc)?;
+    let closure = Closure::of(alloc, normal.roles, normal.n5.items())?;
+    Index::of(alloc, normal, closure)
+}
+
+/// The index of `six_atoms`.
+pub(crate) fn hand_made(alloc: Global) -> Result<Index, Memory>
+    ensures named { IfOk result (λ index. is_named index.normal 2 ≡ true) }
+    ensures edge { IfOk result (λ index. Member (record { atom = 2; role = 0; other = 4 }) index.normal.n2) }
+    ensures back { IfOk result (λ index. Member (record { atom = 4; role = 0; other = 5 }) index.normal.n3) }
 {
     let normal = six_atoms(alloc)?;
     let closure = Closure::of(alloc, normal.roles, normal.n5.items())?;
@@ -86,8 +143,11 @@ fn hand_made(alloc: Global) -> Result<Index, Memory>
 }
 
 /// The context of the class 2.
-fn begun(alloc: Global, index: &Index, out: &mut Vec<Note>) -> Result<Context, Memory>
+pub(crate) fn begun(alloc: Global, index: &Index, out: &mut Vec<Note>) -> Result<Context, Memory>
     requires { is_named index.now.normal 2 ≡ true }
+    ensures key { IfOk result (λ c. c.key ≡ plain 2 ∷ []) }
+    ensures context { IfOk result (λ c. IsContext index.now.normal c) }
+    ensures closed { IfOk result (λ c. ClosedLocally index.now.normal c) }
 {
     Context::begin(alloc, Key::single(alloc, Atom(2)), index, out)
 }
@@ -102,6 +162,11 @@ fn is_as_it_should_be(context: &Context) -> bool {
         && !context.has_empty()
 }
 
+/// Whether these are the atoms 0, 2 and 3.
+fn are_the_three(atoms: &[Atom]) -> bool {
+    atoms.len() == 3 && atoms[0].number() == 0 && atoms[1].number() == 2 && atoms[2].number() == 3
+}
+
 #[test]
 fn a_context_is_closed_and_tells_its_link(rt: HostRuntime) -> Result<(), Fail> {
     let alloc = rt.alloc();
@@ -110,5 +175,32 @@ fn a_context_is_closed_and_tells_its_link(rt: HostRuntime) -> Result<(), Fail> {
     let context = begun(alloc, &index, &mut out)?;
     assert!(rt; is_as_it_should_be(&context));
     assert_eq!(rt; out.len(), 1);
+    Ok(())
+}
+
+#[test]
+fn the_atoms_that_stand_alone_ascend(rt: HostRuntime) -> Result<(), Fail> {
+    let alloc = rt.alloc();
+    let index = hand_made(alloc)?;
+    let mut out = Vec::new(alloc);
+    let context = begun(alloc, &index, &mut out)?;
+    let atoms = context.singles(alloc)?;
+    assert!(rt; are_the_three(atoms.as_slice()));
+    Ok(())
+}
+
+/// Whether it has the clauses of 2, of owl:Thing and of 3, that of the edge to a 4, and that of the edge to what is a 4 and a 5.
+fn has_what_pairs_give(context: &Context) -> bool {
+    context.facts() == 5 && context.has_single(Atom(3))
+}
+
+#[test]
+fn clauses_that_are_of_use_to_each_other_meet(rt: HostRuntime) -> Result<(), Fail> {
+    let alloc = rt.alloc();
+    let index = universal_index(alloc)?;
+    let mut out = Vec::new(alloc);
+    let context = begun(alloc, &index, &mut out)?;
+    assert!(rt; has_what_pairs_give(&context));
+    assert_eq!(rt; out.len(), 2);
     Ok(())
 }

@@ -1,10 +1,9 @@
+pub mod Answered
+pub mod Closures
 pub mod Complete
+pub mod Documents
 pub mod Fronts
-pub mod Narrow
 pub mod OneWord
+pub mod Runs
 pub mod Said
-pub mod WalkAnswers
-pub mod WalkDocument
-pub mod WalkEntailment
-pub mod WalkReached
-pub mod WalkTold
+pub mod Told

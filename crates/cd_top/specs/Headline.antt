@@ -5,27 +5,35 @@ use Rattle.cd_io.specs.Streams.{AppendsFront}
 use Rattle.cd_grammar.specs.Grammar.{IsRead}
 use Rattle.cd_meaning.specs.declared.document.Document.{Document}
 use Rattle.cd_meaning.specs.Answer.{IsAnswer, SaysEntailed}
-use Rattle.cd_top.specs.Walk.{IsNarrow}
+use Rattle.cd_base.specs.declared.limit_kind.LimitKind.{LimitKind}
+use Rattle.cd_top.specs.Limit.{IsReached}
 
 -- the words are the one command
 abbrev pub AsksClassify : List (List ℕ) → Type 0
 AsksClassify words = words ≡ codes "classify" ∷ []
 
--- how many bytes of input the command takes
+-- how many bytes of input the command takes, and the maxima of contexts and of facts
 abbrev pub standard_bytes : ℕ
 standard_bytes = 268435456
+
+abbrev pub standard_contexts : ℕ
+standard_contexts = 1000000
+
+abbrev pub standard_facts : ℕ
+standard_facts = 10000000
 
 -- the input is a document of at most so many bytes
 abbrev pub IsAccepted : List ℕ → ℕ → Type 0
 IsAccepted input most = (length input ≤ most) × (document : Document) × IsRead input document
 
--- the input is such a document, and its axioms are subsumptions between named classes
-abbrev pub IsAnswerable : List ℕ → ℕ → Type 0
-IsAnswerable input most = (length input ≤ most) × (document : Document) × IsRead input document × IsNarrow document
+-- the input is such a document, and by its normal axioms a maximum is reached with that number
+abbrev pub IsLimited : List ℕ → ℕ → ℕ → ℕ → LimitKind → ℕ → Type 0
+IsLimited input most max_contexts max_facts kind number = (length input ≤ most) × (document : Document) × IsRead input document × IsReached document max_contexts max_facts kind number
 
--- the input is such a document, and it has another axiom
-abbrev pub IsUnbuilt : List ℕ → ℕ → Type 0
-IsUnbuilt input most = (length input ≤ most) × (document : Document) × IsRead input document × (IsNarrow document → ⊥)
+-- the input is such a document, and no maximum can be reached by its normal axioms
+pub record IsAnswerable (input : List ℕ) (most max_contexts max_facts : ℕ) : Type 0 where
+  pub accepted : IsAccepted input most
+  pub unlimited : (kind : LimitKind) (number : ℕ) → IsLimited input most max_contexts max_facts kind number → ⊥
 
 -- the text is the answer to the document that the input is, and says, read back, exactly what the document entails
 abbrev pub IsAnswered : List ℕ → List ℕ → Type 0

@@ -1,4 +1,5 @@
+pub mod Answers
 pub mod Headline
+pub mod Limit
+pub mod Saturation
 pub mod Status
-pub mod Walk
-pub mod WalkSteps

@@ -1,17 +1,18 @@
 //! The classify command, but for the notes.
-ghost use Rattle.std.specs.Prelude.{◌≡◌, ◌≤◌, ◌⊎◌, true, length, List, ℕ, Some, Err, [], IfSome, IfOk, OnOk, IsErrOf};
+ghost use Rattle.std.specs.Prelude.{◌≡◌, ◌≤◌, true, length, List, ℕ, Some, Err, [], IfSome, IfOk, OnOk, IsErrOf};
 ghost use Rattle.std.specs.Io.KnownBytes.{Appends};
 ghost use Rattle.cd_io.specs.Causes.{Rose, HasCause};
 ghost use Rattle.cd_io.specs.Streams.{AppendsFront};
-ghost use Rattle.cd_top.specs.Headline.{IsAccepted, IsAnswerable, IsAnswered, IsClassified, IsPartlyAnswered, IsUnbuilt};
+ghost use Rattle.cd_top.specs.Headline.{IsAccepted, IsAnswered, IsClassified, IsLimited, IsPartlyAnswered};
 ghost use Rattle.cd_grammar.specs.Reading.{IsRefused};
 ghost use Rattle.cd_grammar.specs.declared.refusal.Refusal.{Refusal};
+ghost use Rattle.cd_base.specs.declared.limit_kind.LimitKind.{LimitKind};
 ghost use Rattle.cd_top.specs.Status.{IsEarly};
 
 use crate::answer::answer_to;
+use crate::answers::Halt;
 use crate::status::Status;
-use crate::walk::is_narrow;
-use cd_base::{Limits, Memory};
+use cd_base::{LimitKind, Limits};
 use cd_grammar::{ReadRefusal, Refusal, read_document};
 use cd_io::{Sink, Source, WriteFault, write_all};
 use std::alloc::Global;
@@ -22,8 +23,8 @@ use thiserror::Error;
 enum Stop {
     #[error("{0}")]
     Refused(Refusal),
-    #[error("the document is of no form that is built so far")]
-    Narrow,
+    #[error("the maximum was reached ({0:?}: {1})")]
+    Limit(LimitKind, u64),
     #[error("reading failed")]
     ReadFault,
     #[error("out of memory")]
@@ -48,9 +49,9 @@ pub(crate) fn classify<S: Source, K: Sink>(
     ensures write_fault { result ≡ Status.WriteFault → Rose (K.faults out.old) (K.faults out.new) }
     ensures refused { IfSome (S.left source.old) (λ input. (refusal : Refusal) → result ≡ Status.Refused refusal
         → IsRefused input limits.now.max_bytes refusal) }
-    ensures narrow { IfSome (S.left source.old) (λ input. result ≡ Status.Narrow → IsUnbuilt input limits.now.max_bytes) }
+    ensures limit { IfSome (S.left source.old) (λ input. (kind : LimitKind) (number : ℕ) → result ≡ Status.Limit kind number
+        → IsLimited input limits.now.max_bytes limits.now.max_contexts limits.now.max_facts kind number) }
     ensures unaccepted { IfSome (S.left source.old) (λ input. (IsAccepted input limits.now.max_bytes → ⊥) → IsEarly result) }
-    ensures unanswerable { IfSome (S.left source.old) (λ input. IsAnswerable input limits.now.max_bytes → result ≡ Status.Narrow → ⊥) }
 
     // What stands after it.
     ensures unwritten { IsEarly result → out.new ≡ out.old }
@@ -63,7 +64,7 @@ pub(crate) fn classify<S: Source, K: Sink>(
             Err(_) => Status::WriteFault,
         },
         Err(Stop::Refused(refusal)) => Status::Refused(refusal),
-        Err(Stop::Narrow) => Status::Narrow,
+        Err(Stop::Limit(kind, number)) => Status::Limit(kind, number),
         Err(Stop::ReadFault) => Status::ReadFault,
         Err(Stop::Memory) => Status::Memory,
     }
@@ -77,8 +78,8 @@ fn answer_of<S: Source>(alloc: Global, source: &mut S, limits: &Limits) -> Resul
     ensures read_fault { IsErrOf result Stop.ReadFault → Rose (S.faults source.old) (S.faults source.new) }
     ensures refused { IfSome (S.left source.old) (λ input. (refusal : Refusal) → result ≡ Err (Stop.Refused refusal)
         → IsRefused input limits.now.max_bytes refusal) }
-    ensures narrow { IfSome (S.left source.old) (λ input. IsErrOf result Stop.Narrow → IsUnbuilt input limits.now.max_bytes) }
-    ensures unanswerable { IfSome (S.left source.old) (λ input. IsAnswerable input limits.now.max_bytes → IsErrOf result Stop.Narrow → ⊥) }
+    ensures limit { IfSome (S.left source.old) (λ input. (kind : LimitKind) (number : ℕ) → result ≡ Err (Stop.Limit kind number)
+        → IsLimited input limits.now.max_bytes limits.now.max_contexts limits.now.max_facts kind number) }
 {
     let document = match read_document(alloc, source, limits) {
         Ok(document) => document,
@@ -86,12 +87,10 @@ fn answer_of<S: Source>(alloc: Global, source: &mut S, limits: &Limits) -> Resul
         Err(ReadRefusal::ReadFault) => return Err(Stop::ReadFault),
         Err(ReadRefusal::Memory) => return Err(Stop::Memory),
     };
-    if !is_narrow(&document) {
-        return Err(Stop::Narrow);
-    }
-    match answer_to(alloc, &document) {
+    match answer_to(alloc, &document, limits) {
         Ok(text) => Ok(text),
-        Err(Memory) => Err(Stop::Memory),
+        Err(Halt::Limit(kind, number)) => Err(Stop::Limit(kind, number)),
+        Err(Halt::Memory) => Err(Stop::Memory),
     }
 }
 

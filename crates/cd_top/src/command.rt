@@ -1,9 +1,10 @@
 //! The command words, and the line on the notes.
 ghost use Rattle.std.specs.Prelude.{◌≡◌, ◌≤◌, ◌⊎◌, ◌↔◌, true, IsTrue, IfSome, List, ℕ, map, string_bytes, codes};
 ghost use Rattle.cd_io.specs.Causes.{Rose};
-ghost use Rattle.cd_top.specs.Headline.{AsksClassify, standard_bytes, IsAccepted, IsAnswerable, IsClassified, IsPartlyAnswered, IsUnbuilt};
+ghost use Rattle.cd_top.specs.Headline.{AsksClassify, standard_bytes, standard_contexts, standard_facts, IsAccepted, IsAnswerable, IsClassified, IsLimited, IsPartlyAnswered};
 ghost use Rattle.cd_grammar.specs.Reading.{IsRefused};
 ghost use Rattle.cd_grammar.specs.declared.refusal.Refusal.{Refusal};
+ghost use Rattle.cd_base.specs.declared.limit_kind.LimitKind.{LimitKind};
 ghost use Rattle.cd_top.specs.Status.{line_of, IsEarly, IsNoted};
 
 use crate::classify::classify;
@@ -34,11 +35,12 @@ pub fn run<S: Source, K: Sink, E: Sink>(
     ensures write_fault { result ≡ Status.WriteFault → Rose (K.faults out.old) (K.faults out.new) }
     ensures refused { IfSome (S.left source.old) (λ input. (refusal : Refusal) → result ≡ Status.Refused refusal
         → IsRefused input standard_bytes refusal) }
-    ensures narrow { IfSome (S.left source.old) (λ input. result ≡ Status.Narrow → IsUnbuilt input standard_bytes) }
+    ensures limit { IfSome (S.left source.old) (λ input. (kind : LimitKind) (number : ℕ) → result ≡ Status.Limit kind number
+        → IsLimited input standard_bytes standard_contexts standard_facts kind number) }
     ensures unaccepted { IfSome (S.left source.old) (λ input. (IsAccepted input standard_bytes → ⊥) → IsEarly result) }
 
-    // An accepted input of named subsumptions is answered unless a fault rose or memory ran out.
-    ensures complete { IfSome (S.left source.old) (λ input. AsksClassify (map string_bytes words.now) → IsAnswerable input standard_bytes →
+    // An accepted input by which no maximum is reached is answered unless a fault rose or memory ran out.
+    ensures complete { IfSome (S.left source.old) (λ input. AsksClassify (map string_bytes words.now) → IsAnswerable input standard_bytes standard_contexts standard_facts →
         (Rose (S.faults source.old) (S.faults source.new) → ⊥) → (Rose (K.faults out.old) (K.faults out.new) → ⊥)
         → (result ≡ Status.Done) ⊎ (result ≡ Status.Memory)) }
 
@@ -59,8 +61,8 @@ pub fn run<S: Source, K: Sink, E: Sink>(
 
 /// The classify command on one thread: it waits for nobody and always returns.
 ///
-/// Linear in the bytes of the input and of the answer, in the axioms that walks from each class go over, and near linear in the
-/// sum of the numbers of superclasses of all classes.
+/// Linear in the bytes of the input and of the answer, and near linear in the sum of the numbers of superclasses of all classes, beside
+/// the rules for each clause of each context (`cd_context`), of which there can be exponentially many in the axioms.
 pub fn classify_here<S: Source, K: Sink, E: Sink>(
     alloc: Global,
     source: &mut S,
@@ -79,11 +81,12 @@ pub fn classify_here<S: Source, K: Sink, E: Sink>(
     ensures write_fault { result ≡ Status.WriteFault → Rose (K.faults out.old) (K.faults out.new) }
     ensures refused { IfSome (S.left source.old) (λ input. (refusal : Refusal) → result ≡ Status.Refused refusal
         → IsRefused input limits.now.max_bytes refusal) }
-    ensures narrow { IfSome (S.left source.old) (λ input. result ≡ Status.Narrow → IsUnbuilt input limits.now.max_bytes) }
+    ensures limit { IfSome (S.left source.old) (λ input. (kind : LimitKind) (number : ℕ) → result ≡ Status.Limit kind number
+        → IsLimited input limits.now.max_bytes limits.now.max_contexts limits.now.max_facts kind number) }
     ensures unaccepted { IfSome (S.left source.old) (λ input. (IsAccepted input limits.now.max_bytes → ⊥) → IsEarly result) }
 
-    // An accepted input of named subsumptions is answered unless a fault rose or memory ran out.
-    ensures complete { IfSome (S.left source.old) (λ input. IsAnswerable input limits.now.max_bytes →
+    // An accepted input by which no maximum is reached is answered unless a fault rose or memory ran out.
+    ensures complete { IfSome (S.left source.old) (λ input. IsAnswerable input limits.now.max_bytes limits.now.max_contexts limits.now.max_facts →
         (Rose (S.faults source.old) (S.faults source.new) → ⊥) → (Rose (K.faults out.old) (K.faults out.new) → ⊥)
         → (result ≡ Status.Done) ⊎ (result ≡ Status.Memory)) }
 

@@ -2,28 +2,33 @@
 //!
 //! `run` is all that a program has to call. A caller that has limits of its own calls `classify_here`.
 //!
-//! The road of a document, by modules: `cd_grammar` reads it. `walk` finds all classes that each class is below, and `answer` has
-//! `cd_taxonomy` write the text. `classify` reads, answers and writes; `command` looks at the words before it, and `notes` puts a line
+//! The road of a document, by modules: `cd_grammar` reads it. `indexing` makes its normal axioms (`cd_normal`, `cd_index`), `saturation`
+//! works the cells with the contexts until each conclusion is redundant (`cd_core`, `cd_cell`), `answers` asks them for the superclasses
+//! of each class, and `answer` has `cd_taxonomy` write the text. `classify` reads, answers and writes; `command` looks at the words before it, and `notes` puts a line
 //! on the notes after it. `status` has the ways in which a run ends.
 //!
 //! Nothing is written before the whole answer is there. So the output is as it was where the input is refused, a read fails or
 //! memory runs out, and after a write that failed it has a front of the one right text, never a part of another.
 //!
 //! Each status has its cause. `ReadFault` and `WriteFault` come only where the stream's count of faults rose in this run, `Refused`
-//! only where the input is too long or has that first fault, `Narrow` only where the document has an axiom for which nothing is built
-//! so far, and `Usage` exactly where the words are no command. So an accepted document of named subsumptions is answered where no
-//! fault rose, unless memory runs out: of `Memory` alone the contracts name no cause.
+//! only where the input is too long or has that first fault, `Limit` only where the contexts of the document, or their facts, are as
+//! many as a maximum, and `Usage` exactly where the words are no command. So an accepted document that reaches no maximum is answered
+//! where no fault rose, unless memory runs out: of `Memory` alone the contracts name no cause.
 #![tactic(auto)]
 
 mod answer;
+mod answers;
 mod classify;
 mod command;
+mod indexing;
 mod notes;
+mod saturation;
 mod status;
-mod walk;
 
 pub use command::{classify_here, run};
 pub use status::Status;
 
+#[cfg(test)]
+mod small_ontologies;
 #[cfg(test)]
 mod tests;

@@ -3,10 +3,11 @@ ghost use Rattle.std.specs.Prelude.{◌≡◌, ◌-◌, ◌++◌, true, OnOk};
 ghost use Rattle.std.specs.Io.KnownBytes.{Appends};
 ghost use Rattle.cd_io.specs.Causes.{HasCause};
 ghost use Rattle.cd_io.specs.Streams.{AppendsFront};
-ghost use Rattle.cd_top.specs.Status.{IsNoted, has_fixed_line, line_of, refusal_line, construct_line, word_or_none, numbered};
+ghost use Rattle.cd_top.specs.Status.{IsNoted, has_fixed_line, line_of, limit_line, refusal_line, construct_line, word_or_none, numbered};
 ghost use Rattle.cd_grammar.specs.Words.{word_of};
 
 use crate::status::Status;
+use cd_base::LimitKind;
 use cd_grammar::{Refusal, word_text};
 use cd_io::{Sink, WriteFault, write_all};
 use itoa::Buffer;
@@ -29,6 +30,7 @@ fn put_line<E: Sink>(notes: &mut E, status: Status) -> Result<(), WriteFault>
 {
     match status {
         Status::Refused(refusal) => put_refusal(notes, refusal),
+        Status::Limit(kind, number) => put_limit(notes, kind, number),
         other => write_all(notes, fixed_line(other)),
     }
 }
@@ -42,8 +44,29 @@ fn fixed_line(status: Status) -> &'static [u8]
         Status::ReadFault => b"condor: reading failed\n",
         Status::WriteFault => b"condor: writing failed\n",
         Status::Memory => b"condor: out of memory\n",
-        Status::Narrow => b"condor: form not built\n",
-        Status::Done | Status::Refused(_) => b"",
+        Status::Done | Status::Refused(_) | Status::Limit(_, _) => b"",
+    }
+}
+
+/// Writes the line of a maximum.
+fn put_limit<E: Sink>(notes: &mut E, kind: LimitKind, number: u64) -> Result<(), WriteFault>
+    ensures all { OnOk result (Appends (E.written notes.old) (E.written notes.new) (limit_line kind number)) }
+    ensures front { AppendsFront (E.written notes.old) (E.written notes.new) (limit_line kind number) }
+    ensures cause { HasCause (E.faults notes.old) (E.faults notes.new) result }
+{
+    match kind {
+        LimitKind::Contexts => put_numbered(
+            notes,
+            b"condor: limit on contexts reached at ",
+            number,
+            b"\n",
+        ),
+        LimitKind::Facts => put_numbered(
+            notes,
+            b"condor: limit on facts reached at ",
+            number,
+            b"\n",
+        ),
     }
 }
 

@@ -2,6 +2,7 @@
 ghost use Rattle.std.specs.Prelude.{◌≡◌};
 ghost use Rattle.cd_top.specs.Status.{code_of};
 
+use cd_base::LimitKind;
 use cd_grammar::Refusal;
 
 /// How a run ended. Each status but `Done` puts one line on the notes.
@@ -13,14 +14,14 @@ pub enum Status {
     Refused(Refusal),
     /// The words are not those of a command.
     Usage,
+    /// A maximum was reached: which, and the count that has reached it.
+    Limit(LimitKind, u64),
     /// A read failed.
     ReadFault,
     /// A write failed. What was written is a front of the answer.
     WriteFault,
     /// Memory ran out.
     Memory,
-    /// The document has an axiom other than a subsumption between named classes, for which nothing is built so far.
-    Narrow,
 }
 
 impl Status {
@@ -32,10 +33,10 @@ impl Status {
             Status::Done => 0,
             Status::Refused(_) => 1,
             Status::Usage => 2,
+            Status::Limit(_, _) => 3,
             Status::ReadFault => 4,
             Status::WriteFault => 5,
             Status::Memory => 6,
-            Status::Narrow => 10,
         }
     }
 }

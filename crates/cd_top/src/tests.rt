@@ -1,7 +1,8 @@
 //! Worked inputs through the whole command, over memory. Expected texts are written by hand.
-use crate::walk::{answers, is_narrow};
+use crate::answers::answers;
+use crate::small_ontologies::SMALL_ONTOLOGIES;
 use crate::{Status, classify_here, run};
-use cd_base::Limits;
+use cd_base::{LimitKind, Limits};
 use cd_grammar::read_document;
 use cd_index::{Closure, Index};
 use cd_io::{MemSink, MemSource, Source};
@@ -113,6 +114,123 @@ fn real_syntax_gives_the_taxonomy_of_what_it_says(rt: HostRuntime) -> Result<(),
     Ok(())
 }
 
+/// The text with the whole names of the two classes that every ontology has.
+fn with_whole_names(alloc: Global, text: &str) -> Result<String, Fail> {
+    let thing = text.replace(alloc, "owl:Thing", "<http://www.w3.org/2002/07/owl#Thing>")?;
+    let both = thing.replace(
+        alloc,
+        "owl:Nothing",
+        "<http://www.w3.org/2002/07/owl#Nothing>",
+    )?;
+    Ok(both)
+}
+
+/// Whether the command answers the input with this text, and says nothing else.
+fn is_answered(alloc: Global, input: &str, expected: &str) -> Result<bool, Fail> {
+    let ran = run_over_memory(alloc, "classify", input)?;
+    let text = with_whole_names(alloc, expected)?;
+    Ok(
+        ran.status == Status::Done
+            && ran.out.bytes() == text.as_bytes()
+            && ran.notes.bytes().is_empty(),
+    )
+}
+
+#[test]
+fn small_ontologies_have_the_taxonomies_that_all_their_interpretations_give(
+    rt: HostRuntime,
+) -> Result<(), Fail> {
+    for (input, expected) in SMALL_ONTOLOGIES {
+        assert!(rt; is_answered(rt.alloc(), input, expected)?, "{input}");
+    }
+    Ok(())
+}
+
+/// A subsumption under so many nested complements.
+fn nested_text(alloc: Global, depth: usize) -> Result<String, Fail> {
+    let open = "ObjectComplementOf(".repeat(alloc, depth)?;
+    let close = ")".repeat(alloc, depth)?;
+    let text = format!(in alloc; "Ontology(SubClassOf(<x:A> {open}<x:B>{close}))")?;
+    Ok(text)
+}
+
+#[test]
+fn the_deepest_nesting_is_answered(rt: HostRuntime) -> Result<(), Fail> {
+    let text = nested_text(rt.alloc(), 256)?;
+    assert!(rt;
+        is_answered(
+            rt.alloc(),
+            text.as_str(),
+            "Ontology(\nSubClassOf(<x:A> <x:B>)\nSubClassOf(<x:B> owl:Thing)\n)\n"
+        )?
+    );
+    Ok(())
+}
+
+/// Three contexts of classes and one of an existential, at least.
+const SOME_OF_A_UNION: &str =
+    "Ontology(SubClassOf(<x:A> ObjectSomeValuesFrom(<x:R> ObjectUnionOf(<x:B> <x:C>))) SubClassOf(ObjectSomeValuesFrom(<x:R> <x:B>) <x:D>) SubClassOf(ObjectSomeValuesFrom(<x:R> <x:C>) <x:D>))";
+
+/// How a run over the input ends with these maxima, and what it puts on its sinks.
+fn run_with_maxima(
+    alloc: Global,
+    input: &str,
+    cells: u32,
+    max_contexts: u64,
+    max_facts: u64,
+) -> Result<Ended, Fail> {
+    let limits = Limits::with(1, cells, 1_000, max_contexts, max_facts).ok_or("out of range")?;
+    let mut source = MemSource::new(input.as_bytes().to_vec(alloc)?, 7, Vec::new(alloc));
+    let mut out = MemSink::new(alloc, 1_000, 1_000, Vec::new(alloc))?;
+    let mut notes = MemSink::new(alloc, 1_000, 1_000, Vec::new(alloc))?;
+    let status = classify_here(alloc, &mut source, &mut out, &mut notes, &limits);
+    let unread = count_left(&mut source);
+    Ok(Ended {
+        status,
+        out,
+        notes,
+        unread,
+    })
+}
+
+/// Whether a run with these maxima has reached one of this kind, at a count of `least` or more, and has written its line alone.
+fn has_reached(
+    alloc: Global,
+    kind: LimitKind,
+    max_contexts: u64,
+    max_facts: u64,
+    least: u64,
+) -> Result<bool, Fail> {
+    let ran = run_with_maxima(alloc, SOME_OF_A_UNION, 3, max_contexts, max_facts)?;
+    let Status::Limit(reached, count) = ran.status else {
+        return Ok(false);
+    };
+    let line = match kind {
+        LimitKind::Contexts => {
+            format!(in alloc; "condor: limit on contexts reached at {count}\n")?
+        }
+        LimitKind::Facts => format!(in alloc; "condor: limit on facts reached at {count}\n")?,
+    };
+    Ok(
+        reached == kind
+            && least <= count
+            && ran.status.code() == 3
+            && ran.out.bytes().is_empty()
+            && ran.notes.bytes() == line.as_bytes(),
+    )
+}
+
+#[test]
+fn a_maximum_that_is_reached_is_told_with_its_count(rt: HostRuntime) -> Result<(), Fail> {
+    let alloc = rt.alloc();
+    assert!(rt; has_reached(alloc, LimitKind::Contexts, 4, 1_000, 4)?);
+    assert!(rt; has_reached(alloc, LimitKind::Contexts, 1, 1, 1)?);
+    assert!(rt; has_reached(alloc, LimitKind::Facts, 1_000, 5, 5)?);
+    let ran = run_with_maxima(alloc, SOME_OF_A_UNION, 3, 1_000, 1_000)?;
+    assert_eq!(rt; ran.status, Status::Done);
+    Ok(())
+}
+
 #[test]
 fn a_refused_document_names_what_is_wrong_and_where(rt: HostRuntime) -> Result<(), Fail> {
     let nested = "ObjectComplementOf(".repeat(rt.alloc(), 257)?;
@@ -152,16 +270,6 @@ fn a_refused_document_names_what_is_wrong_and_where(rt: HostRuntime) -> Result<(
             deep.as_str(),
             1,
             "condor: nesting deeper than 256 at byte 4890\n",
-        ),
-        (
-            "Ontology(DisjointClasses(<x:A> <x:A>))",
-            10,
-            "condor: form not built\n",
-        ),
-        (
-            "Ontology(SubClassOf(<x:A> ObjectUnionOf(<x:B>)))",
-            10,
-            "condor: form not built\n",
         ),
     ] {
         let ran = run_over_memory(rt.alloc(), "classify", input)?;
@@ -265,7 +373,7 @@ fn failing_notes_leave_the_status_as_it_is(rt: HostRuntime) -> Result<(), Fail> 
 fn the_limit_on_bytes_takes_an_input_of_that_length(rt: HostRuntime) -> Result<(), Fail> {
     let alloc = rt.alloc();
     for (most, code, line) in [(32, 1, "condor: input longer than 32 bytes\n"), (33, 0, "")] {
-        let limits = Limits::with(1, 1, most, 1, 1).ok_or("the limits are in range")?;
+        let limits = Limits::with(1, 1, most, 100, 100).ok_or("the limits are in range")?;
         let mut source = MemSource::new(
             ONE_SUBSUMPTION.as_bytes().to_vec(alloc)?,
             7,
@@ -289,10 +397,7 @@ fn the_groups_stand_in_the_order_of_their_names(rt: HostRuntime) -> Result<(), F
         Vec::new(alloc),
     );
     let document = read_document(alloc, &mut source, &Limits::standard())?;
-    if !is_narrow(&document) {
-        return Err(Fail::from("its one axiom is a subsumption between named classes"));
-    }
-    let above = answers(alloc, &document)?;
+    let above = answers(alloc, &document, &Limits::standard())?;
     let found = taxonomy(alloc, &document, &above)?;
     // owl:Nothing, owl:Thing, A and B are the classes 1, 0, 2 and 3.
     let members: [u32; 4] = [1, 0, 2, 3];

@@ -15,7 +15,7 @@ conclusions-init c =
       can = tt;
       ends = tt;
       adding = subst (λ q. IsAdding c.args.index.now.normal c.args.key.now told c.args.store.now (numbers c.args.waiting.now) c.args.store.now (numbers c.args.waiting.now) q) (sym e)
-          record { closed = c.requires.closed; working = c.requires.working; concluded = c.requires.concluded; takes_up = omega arith; continues = continues_refl c.args.store.now };
+          record { closed = c.requires.closed; working = c.requires.working; concluded = c.requires.concluded; takes_up = omega arith; stays = λ k m w. (m, w); continues = continues_refl c.args.store.now };
     }
 
 pub returns-in_err-add-clause-survivors : goal.returns-in_err-add-clause-survivors

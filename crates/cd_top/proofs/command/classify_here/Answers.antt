@@ -4,8 +4,8 @@ use Rattle.cd_top.proofs.command.classify_here.Goals as goal
 
 pub returns-clause-complete : goal.returns-clause-complete
 returns-clause-complete g c =
-    complete (g.S.Source.left c.args.source.now) c.args.limits.now.max_bytes c.classify-status.result
+    complete (g.S.Source.left c.args.source.now) c.args.limits.now.max_bytes c.args.limits.now.max_contexts c.args.limits.now.max_facts c.classify-status.result
     (Rose (g.S.Source.faults c.args.source.now) (g.S.Source.faults c.classify-status.new.source))
     (Rose (g.K.Sink.faults c.args.out.now) (g.K.Sink.faults c.classify-status.new.out))
-    c.classify-status.ensures.refused c.classify-status.ensures.unanswerable c.classify-status.ensures.usage
+    c.classify-status.ensures.refused c.classify-status.ensures.limit c.classify-status.ensures.usage
     c.classify-status.ensures.read_fault c.classify-status.ensures.write_fault

@@ -1,4 +1,4 @@
-use Rattle.std.proofs.Common.{◌≡◌, ◌∷◌, ◌++◌, List, [], length, filter, nat_lt, refl, sym, ◌∙◌, ap, subst}
+use Rattle.std.proofs.Common.{false, ◌≡◌, ◌∷◌, ◌++◌, List, [], length, filter, nat_lt, refl, sym, ◌∙◌, ap, subst}
 use Rattle.cd_base.specs.Lists.{Member}
 use Rattle.cd_clause.specs.Derivations.{Redundant}
 use Rattle.cd_clause.specs.declared.elem.Elem.{Elem}
@@ -6,6 +6,7 @@ use Rattle.cd_rules.specs.Facts.{ConcludesFrom}
 use Rattle.cd_rules.specs.Uses.{FromBack}
 use Rattle.cd_context.specs.FactLists.{ByKind}
 use Rattle.cd_context.specs.declared.facts.Fact.TheVariants.{Back}
+use Rattle.cd_context.specs.Facts.{has_fact}
 use Rattle.cd_context.specs.Justified.{Justified, IsContext, ClosedLocally}
 use Rattle.cd_context.proofs.Absorb.{joined, keeps_of, absorbs_of, keeps_back, absorbs_back}
 use Rattle.cd_context.proofs.Appended.{appended_only, appended_every}
@@ -41,7 +42,7 @@ pub returns-in_err-close_with-clause-keeps : goal.returns-in_err-close_with-clau
 returns-in_err-close_with-clause-keeps c =
     let n = c.args.index.now.normal in
     rw c.in_ok-add_back.ensures.ok (keeps_of n _ c.args.self.now _ c.self.view_is
-    (keeps_back n _ c.args.back (c.self.inside.facts.backs ++ c.args.back ∷ []) c.close_with.new.store.0 c.close_with.new.store.1 (subst (λ s. IsContext n s) (sym c.self.view_is) c.requires.context) (subst (λ s. Justified n s.key (Back c.args.back.role c.args.back.key c.args.back.atom)) (sym c.self.view_is) c.requires.justified) refl
+    (keeps_back n _ c.args.back (c.self.inside.facts.backs ++ c.args.back ∷ []) c.close_with.new.store.0 c.close_with.new.store.1 (subst (λ s. IsContext n s) (sym c.self.view_is) c.requires.context) (subst (λ s. Justified n s.key (Back c.args.back.role c.args.back.key c.args.back.atom)) (sym c.self.view_is) c.requires.justified) (subst (λ s. has_fact s (Back c.args.back.role c.args.back.key c.args.back.atom) ≡ false) (sym c.self.view_is) c.requires.fresh) refl
     (in_turn_at n c.self.inside.key c.backs-backs.result.now (c.self.inside.facts.backs ++ c.args.back ∷ []) c.deads-deads.result.now c.self.inside.facts.deads c.close_with.new.store.0 (c.backs-backs.ensures ∙ ap (λ (r : ByKind). r.backs) c.in_ok-add_back.ensures.ok) (c.deads-deads.ensures ∙ ap (λ (r : ByKind). r.deads) c.in_ok-add_back.ensures.ok) c.in_err-close_with.ensures.in_turn) c.in_err-close_with.ensures.store
     (record { follows = c.in_err-close_with.ensures.follows; survivors = c.in_err-close_with.ensures.survivors })))
 
@@ -49,7 +50,7 @@ pub returns-in_err-send_since-clause-keeps : goal.returns-in_err-send_since-clau
 returns-in_err-send_since-clause-keeps c =
     let n = c.args.index.now.normal in
     rw c.in_ok-add_back.ensures.ok (keeps_of n _ c.args.self.now _ c.self.view_is
-    (keeps_back n _ c.args.back (c.self.inside.facts.backs ++ c.args.back ∷ []) c.close_with.new.store.0 c.close_with.new.store.1 (subst (λ s. IsContext n s) (sym c.self.view_is) c.requires.context) (subst (λ s. Justified n s.key (Back c.args.back.role c.args.back.key c.args.back.atom)) (sym c.self.view_is) c.requires.justified) refl
+    (keeps_back n _ c.args.back (c.self.inside.facts.backs ++ c.args.back ∷ []) c.close_with.new.store.0 c.close_with.new.store.1 (subst (λ s. IsContext n s) (sym c.self.view_is) c.requires.context) (subst (λ s. Justified n s.key (Back c.args.back.role c.args.back.key c.args.back.atom)) (sym c.self.view_is) c.requires.justified) (subst (λ s. has_fact s (Back c.args.back.role c.args.back.key c.args.back.atom) ≡ false) (sym c.self.view_is) c.requires.fresh) refl
     (in_turn_at n c.self.inside.key c.backs-backs.result.now (c.self.inside.facts.backs ++ c.args.back ∷ []) c.deads-deads.result.now c.self.inside.facts.deads c.close_with.new.store.0 (c.backs-backs.ensures ∙ ap (λ (r : ByKind). r.backs) c.in_ok-add_back.ensures.ok) (c.deads-deads.ensures ∙ ap (λ (r : ByKind). r.deads) c.in_ok-add_back.ensures.ok) c.in_ok-close_with.ensures.in_turn) c.in_ok-close_with.ensures.store
     (record { follows = c.in_ok-close_with.ensures.follows; survivors = c.in_ok-close_with.ensures.survivors })))
 
@@ -57,7 +58,7 @@ pub returns-clause-keeps : goal.returns-clause-keeps
 returns-clause-keeps c =
     let n = c.args.index.now.normal in
     rw c.in_ok-add_back.ensures.ok (keeps_of n _ c.args.self.now _ c.self.view_is
-    (keeps_back n _ c.args.back (c.self.inside.facts.backs ++ c.args.back ∷ []) c.close_with.new.store.0 c.close_with.new.store.1 (subst (λ s. IsContext n s) (sym c.self.view_is) c.requires.context) (subst (λ s. Justified n s.key (Back c.args.back.role c.args.back.key c.args.back.atom)) (sym c.self.view_is) c.requires.justified) refl
+    (keeps_back n _ c.args.back (c.self.inside.facts.backs ++ c.args.back ∷ []) c.close_with.new.store.0 c.close_with.new.store.1 (subst (λ s. IsContext n s) (sym c.self.view_is) c.requires.context) (subst (λ s. Justified n s.key (Back c.args.back.role c.args.back.key c.args.back.atom)) (sym c.self.view_is) c.requires.justified) (subst (λ s. has_fact s (Back c.args.back.role c.args.back.key c.args.back.atom) ≡ false) (sym c.self.view_is) c.requires.fresh) refl
     (in_turn_at n c.self.inside.key c.backs-backs.result.now (c.self.inside.facts.backs ++ c.args.back ∷ []) c.deads-deads.result.now c.self.inside.facts.deads c.close_with.new.store.0 (c.backs-backs.ensures ∙ ap (λ (r : ByKind). r.backs) c.in_ok-add_back.ensures.ok) (c.deads-deads.ensures ∙ ap (λ (r : ByKind). r.deads) c.in_ok-add_back.ensures.ok) c.in_ok-close_with.ensures.in_turn) c.in_ok-close_with.ensures.store
     (record { follows = c.in_ok-close_with.ensures.follows; survivors = c.in_ok-close_with.ensures.survivors })))
 
@@ -66,7 +67,7 @@ returns-clause-ok c =
     let n = c.args.index.now.normal in
     let stored : c.clauses-stored.result.now ≡ c.self.inside.store.0 = c.clauses-stored.ensures.value in
     rw c.in_ok-add_back.ensures.ok (absorbs_of n _ c.args.self.now (Back c.args.back.role c.args.back.key c.args.back.atom) _ c.args.out.now.items c.send_since.new.out.items c.self.view_is
-    (absorbs_back n _ c.args.back (c.self.inside.facts.backs ++ c.args.back ∷ []) c.close_with.new.store.0 c.close_with.new.store.1 (subst (λ s. IsContext n s) (sym c.self.view_is) c.requires.context) (subst (λ s. Justified n s.key (Back c.args.back.role c.args.back.key c.args.back.atom)) (sym c.self.view_is) c.requires.justified) refl
+    (absorbs_back n _ c.args.back (c.self.inside.facts.backs ++ c.args.back ∷ []) c.close_with.new.store.0 c.close_with.new.store.1 (subst (λ s. IsContext n s) (sym c.self.view_is) c.requires.context) (subst (λ s. Justified n s.key (Back c.args.back.role c.args.back.key c.args.back.atom)) (sym c.self.view_is) c.requires.justified) (subst (λ s. has_fact s (Back c.args.back.role c.args.back.key c.args.back.atom) ≡ false) (sym c.self.view_is) c.requires.fresh) refl
     (in_turn_at n c.self.inside.key c.backs-backs.result.now (c.self.inside.facts.backs ++ c.args.back ∷ []) c.deads-deads.result.now c.self.inside.facts.deads c.close_with.new.store.0 (c.backs-backs.ensures ∙ ap (λ (r : ByKind). r.backs) c.in_ok-add_back.ensures.ok) (c.deads-deads.ensures ∙ ap (λ (r : ByKind). r.deads) c.in_ok-add_back.ensures.ok) c.in_ok-close_with.ensures.in_turn) c.in_ok-close_with.ensures.store
     (record { follows = c.in_ok-close_with.ensures.follows; survivors = c.in_ok-close_with.ensures.survivors })
     c.args.out.now.items c.send_since.new.out.items (length c.clauses-stored.result.now)

@@ -1,0 +1,14 @@
+use Rattle.std.proofs.Common.{sym, subst, arith}
+use Rattle.cd_clause.specs.Derivations.{Reachable, from_named}
+use Rattle.cd_context.specs.declared.facts.Fact.TheVariants.{Start}
+use Rattle.cd_cell.specs.Cells.{CellState, IsLawfulNote}
+use Rattle.cd_cell.proofs.tests.started.Goals as goal
+
+pub deliver-requires-clause-lawful : goal.deliver-requires-clause-lawful
+deliver-requires-clause-lawful c =
+    subst (λ (v : CellState). IsLawfulNote v.normal v.cells v.number (record { key = c.single.result; fact = Start })) (sym c.new-cell.ensures) (record {
+      below = omega arith;
+      goes = omega arith;
+      reachable = from_named 2 c.requires c.single.ensures;
+      justified = (2, c.requires, c.single.ensures);
+    })

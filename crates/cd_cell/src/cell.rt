@@ -1,0 +1,117 @@
+//! Cells.
+ghost use Rattle.std.specs.Prelude.{◌≡◌, ◌<◌, ◌++◌, ℕ, [], true, IfOk, OnOk, false};
+ghost use Rattle.cd_base.specs.Keys.{is_named};
+ghost use Rattle.cd_base.specs.Lists.{Member, IsApart};
+ghost use Rattle.cd_actor.specs.Meaning.{Keeps, IsSame, Delivers};
+ghost use Rattle.cd_actor.specs.Sends.{sent, Sends};
+ghost use Rattle.cd_cell.specs.Cells.{meaning};
+ghost use Rattle.cd_cell.specs.Lawful.{owed_lawful};
+ghost use Rattle.cd_cell.specs.Subsumers.{HasContext, IsSubsumers};
+ghost use Rattle.cd_context.specs.declared.facts.Note.{Note};
+
+use crate::answers::answer_of;
+use crate::contexts::Contexts;
+use crate::sending::send_all;
+use cd_actor::{Actor, Outbox};
+use cd_base::{Answer, Atom, Key, Memory};
+use cd_context::Note;
+use cd_index::Index;
+use std::alloc::Global;
+use std::marker::Model;
+
+/// The contexts of the keys that have one place among so many cells.
+#[derive(Debug, Drop)]
+pub struct Cell<'a> {
+    number: u32,
+    cells: u32,
+    index: &'a Index,
+    contexts: Contexts,
+    // Set while a delivery runs, so that it stays where the delivery wants for memory.
+    failed: bool,
+}
+
+impl<'a> Model for Cell<'a> {
+    ghost use Rattle.cd_cell.specs.Cells.{CellState, IsSound};
+
+    ghost Value = { CellState };
+
+    ghost view = { λ c. record { number = c.number; cells = c.cells; normal = c.index.now.normal; contexts = c.contexts; failed = c.failed } };
+
+    ghost invariant = { λ c. IsSound (record { number = c.number; cells = c.cells; normal = c.index.now.normal; contexts = c.contexts; failed = c.failed }) };
+}
+
+impl<'a> Cell<'a> {
+    /// The cell of this number among so many, without a context. Takes no memory and constant time.
+    pub fn new(alloc: Global, number: u32, cells: u32, index: &'a Index) -> Cell<'a>
+        requires { number < cells }
+        ensures { result ≡ record { number = number; cells = cells; normal = index.now.normal; contexts = []; failed = false } }
+    {
+        Cell {
+            number,
+            cells,
+            index,
+            contexts: Contexts::new(alloc),
+            failed: false,
+        }
+    }
+
+    /// What the context of a named class says of it: that it can have no member, or the named classes that have each of its members.
+    ///
+    /// One look-up, linear in the live clauses of the context, and `n log n` in the answer.
+    pub fn subsumers(&self, alloc: Global, atom: Atom) -> Result<Answer, Memory>
+        requires named { is_named self.now.normal atom ≡ true }
+        requires here { HasContext self.now.contexts atom }
+        ensures { IfOk result (λ answer. IsSubsumers self.now.normal self.now.contexts atom answer) }
+    {
+        match self.contexts.get(&Key::single(alloc, atom)) {
+            Some(context) => answer_of(alloc, self.index, context),
+            // it has a context, so this arm isn't reached
+            None => Ok(Answer::Unsatisfiable),
+        }
+    }
+}
+
+impl<'a> Actor for Cell<'a> {
+    type Msg = Note;
+
+    ghost meaning = { meaning };
+
+    ghost lawful_below = { λ c p m l. l.below };
+
+    ghost owed_lawful = { λ c p m w o. owed_lawful c p m w o };
+
+    fn deliver(
+        &mut self,
+        alloc: Global,
+        message: Note,
+        out: &mut Outbox<Note>,
+    ) -> Result<(), Memory> {
+        if self.has(&message) {
+            return Ok(());
+        }
+        let Note { key, fact } = message;
+        // The mark stands while the delivery runs, so that it is left where `?` returns.
+        self.failed = true;
+        let notes = self.contexts.tell(alloc, self.index, &key, fact)?;
+        send_all(self.cells, notes, out)?;
+        self.failed = false;
+        Ok(())
+    }
+
+    fn has(&self, message: &Note) -> bool {
+        self.contexts.has(message)
+    }
+
+    fn list_owed(&self, alloc: Global, out: &mut Outbox<Note>) -> Result<(), Memory> {
+        let notes = self.contexts.list_owed(alloc, self.index)?;
+        send_all(self.cells, notes, out)
+    }
+
+    fn contexts(&self) -> u64 {
+        self.contexts.len()
+    }
+
+    fn facts(&self) -> u64 {
+        self.contexts.facts()
+    }
+}

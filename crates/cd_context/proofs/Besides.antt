@@ -1,0 +1,198 @@
+-- What is found beside an element of a premise.
+use Rattle.std.proofs.Common.{◌≡◌, ◌≢◌, ◌↔◌, ◌==◌, ℕ, zero, suc, ◌<◌, not, Bool, true, false, List, [], ◌∷◌, ◌++◌, length, get_or, refl, sym, ap, ◌∙◌, subst, inl, inr, arith, eq-eqb, eqb-true}
+use Rattle.std.specs.Prelude.{nat_lt}
+use Rattle.std.proofs.lemmas.Bool.{and_from, cases_eq, cond-true, lt-ltb, ne_eqb, not_from_false}
+use Rattle.std.proofs.lemmas.List.{nil_from_length}
+use Rattle.cd_base.specs.Lists.{Member}
+use Rattle.cd_base.specs.declared.normal.Conj.{Conj}
+use Rattle.cd_base.specs.declared.normal.Normal.{Normal}
+use Rattle.cd_base.specs.declared.normal.Triple.{Triple}
+use Rattle.cd_base.proofs.Members.{not_true, any_by_member, any_member, member_at, member_cases, member_get, member_left, member_right}
+use Rattle.cd_clause.specs.declared.elem.Elem.{Elem}
+use Rattle.cd_clause.specs.declared.elem.Elem.TheVariants.{Plain}
+use Rattle.cd_index.specs.Index.{IsFiling, has, is_filed, is_free, left_of}
+use Rattle.cd_index.proofs.Filing.{atom_below}
+use Rattle.cd_rules.specs.LookUps.{AreAtAtom, HasAllWith, filed_at}
+use Rattle.cd_rules.specs.Steps.{IsWithoutOne}
+use Rattle.cd_rules.proofs.Found.{number_found}
+use Rattle.cd_context.specs.Filing.{Filed, atoms_of, under}
+use Rattle.cd_context.proofs.Listed.{listed_atom}
+use Rattle.cd_context.specs.Beside.{HasFiled, IsBesideLeft, IsBesideByOne, IsBesideByCon, IsBesideExist, IsBeside}
+
+-- ---- one left side
+
+-- the number is filed under the atom at another place
+abbrev pub IsElsewhere : Filed → List ℕ → ℕ → ℕ → Type 0
+IsElsewhere f atoms place m = (j : ℕ) × (j < length atoms) × (j ≡ place → ⊥) × Member m (under f (get_or atoms j 0))
+
+-- the number is filed under the atom at place j, which is another one
+abbrev pub OfPlace : Filed → List ℕ → ℕ → ℕ → ℕ → Type 0
+OfPlace f atoms place j m = (j ≡ place → ⊥) × Member m (under f (get_or atoms j 0))
+
+-- the atom itself stands on a left side from which it is taken
+pub stands : (a : ℕ) (left taken : List ℕ) → IsWithoutOne a left taken → Member a left
+stands a left taken w = subst (Member a) (sym w.2) (member_right a w.0 (a ∷ w.1) (inl refl))
+
+-- the atoms of a left side are the one that is taken out, and the others
+pub all_filed : (f : Filed) (a : ℕ) (left taken : List ℕ) → HasFiled f a → IsWithoutOne a left taken → ((b : ℕ) → Member b taken → HasFiled f b) → (b : ℕ) → Member b left → HasFiled f b
+all_filed f a left taken own w h b m = elim (member_cases b w.0 (a ∷ w.1) (subst (Member b) w.2 m)) [
+  | inl q ↦ h b (subst (Member b) (sym w.3) (member_left b w.0 w.1 q))
+  | inr q ↦ elim q [ inl e ↦ subst (HasFiled f) (sym e) own | inr z ↦ h b (subst (Member b) (sym w.3) (member_right b w.0 w.1 z)) ]
+]
+
+-- each of the others stands at a place beside that of the one that is taken out
+other_place : (a b : ℕ) (before after : List ℕ) → Member b (before ++ after) → (j : ℕ) × (j < length (before ++ (a ∷ after))) × (j ≡ length before → ⊥) × (get_or (before ++ (a ∷ after)) j 0 ≡ b)
+other_place a b [] after m = let w = member_at b after m in (suc w.0, omega (arith, w.1), (λ e. absurd (omega arith)), w.2 0)
+other_place a b (c ∷ before) after (inl e) = (0, omega arith, (λ z. absurd (omega arith)), sym e)
+other_place a b (c ∷ before) after (inr m) =
+    let w = other_place a b before after m in
+    (suc w.0, omega (arith, w.1), (λ e. w.2 (omega arith)), w.3)
+
+own_place : (a : ℕ) (before after : List ℕ) → (length before < length (before ++ (a ∷ after))) × (get_or (before ++ (a ∷ after)) (length before) 0 ≡ a)
+own_place a [] after = (omega arith, refl)
+own_place a (c ∷ before) after = let w = own_place a before after in (omega (arith, w.0), w.1)
+
+-- whichever place of the atom is left out, the others have each of the other atoms
+pub elsewhere : (f : Filed) (a : ℕ) (left : List ℕ) (place m : ℕ) → place < length left → get_or left place 0 ≡ a → IsBesideLeft f a left m → IsElsewhere f left place m
+elsewhere f a left place m l e q =
+    let w = q.1 in
+    let b = q.3.0 in
+    let there = other_place a b w.0 w.1 (subst (Member b) w.3 q.3.1) in
+    let own = own_place a w.0 w.1 in
+    let n : ℕ = length w.0 in
+    let lt : there.0 < length left = subst (λ (z : List ℕ). there.0 < length z) (sym w.2) there.1 in
+    let is : get_or left there.0 0 ≡ b = ap (λ (z : List ℕ). get_or z there.0 0) w.2 ∙ there.3 in
+    let lt_own : n < length left = subst (λ (z : List ℕ). n < length z) (sym w.2) own.0 in
+    let is_own : get_or left n 0 ≡ a = ap (λ (z : List ℕ). get_or z n 0) w.2 ∙ own.1 in
+    elim (cases_eq there.0 place) [
+      | inl same ↦ (
+        n,
+        lt_own,
+        (λ z. there.2 (same ∙ sym z)),
+        subst (λ x. Member m (under f x)) (sym is ∙ ap (λ k. get_or left k 0) same ∙ e ∙ sym is_own) q.3.2,
+      )
+      | inr differ ↦ (there.0, lt, differ, subst (λ x. Member m (under f x)) (sym is) q.3.2)
+    ]
+
+-- ---- axioms by number
+
+-- by the axiom of the number at place i
+abbrev pub OfNumber : Normal → Filed → ℕ → List ℕ → ℕ → ℕ → Type 0
+OfNumber n f a numbers i m = IsBesideLeft f a (left_of n.n1 (get_or numbers i 0)) m
+
+pub by_number : (n : Normal) (f : Filed) (a : ℕ) (numbers : List ℕ) (m : ℕ) → IsBesideByOne n f a numbers m → (i : ℕ) × (i < length numbers) × OfNumber n f a numbers i m
+by_number n f a numbers m q = let w = member_at q.0 numbers q.1 in (w.0, w.1, subst (λ k. IsBesideLeft f a (left_of n.n1 k) m) (sym (w.2 0)) q.2)
+
+-- all axioms with the atom on the left are among these
+pub by_all : (n : Normal) (f : Filed) (a : ℕ) (numbers : List ℕ) → HasAllWith n.n1 a numbers → (m : ℕ) → IsBesideByCon n f a m → IsBesideByOne n f a numbers m
+by_all n f a numbers h m q = (q.0, h q.0 q.1 (stands a (left_of n.n1 q.0) q.2.0 q.2.1), q.2)
+
+-- the left side of the axiom at a place
+pub left_read : (axioms : List Conj) (k : ℕ) (x : Conj) → k < length axioms → x ≡ get_or axioms k x → left_of axioms k ≡ x.left
+left_read [] k x l e = absurd (omega arith)
+left_read (y ∷ axioms) zero x l e = ap (λ (c : Conj). c.left) (sym e)
+left_read (y ∷ axioms) (suc k) x l e = left_read axioms k x (omega arith) e
+
+-- by an axiom that is filed under the atom at place i
+abbrev pub OfAtomAt : Normal → Filed → List (List ℕ) → ℕ → ℕ → ℕ → Type 0
+OfAtomAt n f filed a i m = IsBesideByOne n f a (filed_at filed n.atoms (get_or (atoms_of f) i 0)) m
+
+in_filed : (filed : List (List ℕ)) (number b k : ℕ) → b < number → Member k (get_or filed b []) → Member k (filed_at filed number b)
+in_filed filed number b k l m = subst (Member k) (sym (cond-true (nat_lt b number) (get_or filed b []) [] (lt-ltb b number l))) m
+
+has_member : (atoms : List ℕ) (a : ℕ) → has a atoms ≡ true → Member a atoms
+has_member atoms a h = let w = any_member (λ (b : ℕ). b == a) atoms h in subst (λ z. Member z atoms) (eqb-true w.0 a w.2) w.1
+
+-- an atom on the left is in range
+left_below : (n : Normal) (k atom : ℕ) → Member atom (left_of n.n1 k) → atom < n.atoms
+left_below n k atom m = atom_below n.atoms n.n1 k atom n.n1_within (any_by_member (λ (b : ℕ). b == atom) (left_of n.n1 k) atom m (eq-eqb atom atom refl))
+
+-- an axiom with a left side is filed under the atom that is chosen from it
+filed_there : (n : Normal) (filed : List (List ℕ)) (filing : IsFiling n.n1 n.atoms filed) (k : ℕ) → k < length n.n1 → left_of n.n1 k ≢ []
+    → Member (filing.chosen k) (left_of n.n1 k) × Member k (filed_at filed n.atoms (filing.chosen k))
+filed_there n filed filing k l some =
+    let a : ℕ = filing.chosen k in
+    let there : Member a (left_of n.n1 k) = has_member (left_of n.n1 k) a (filing.stands k l some) in
+    let below : a < n.atoms = left_below n k a there in
+    let not_free : is_free n.n1 k ≡ false = ne_eqb (length (left_of n.n1 k)) 0 (λ e. some (nil_from_length (left_of n.n1 k) e)) in (
+      there,
+      in_filed filed n.atoms a k below
+          (subst (Member k) (sym (filing.exact.at a below))
+          (number_found n.n1 (λ (j : ℕ). is_filed n.n1 filing.chosen a j) k l (and_from (not (is_free n.n1 k)) (a == a) (not_from_false (is_free n.n1 k) not_free) (eq-eqb a a refl)))),
+    )
+
+-- an axiom that can fire is filed under an atom under which a clause is filed
+pub by_filed : (n : Normal) (f : Filed) (a : ℕ) (filed : List (List ℕ)) → (a < n.atoms → IsFiling n.n1 n.atoms filed) → HasFiled f a → (m : ℕ) → IsBesideByCon n f a m
+    → (i : ℕ) × (i < length (atoms_of f)) × OfAtomAt n f filed a i m
+by_filed n f a filed filing own m q =
+    let left = left_of n.n1 q.0 in
+    let there : Member a left = stands a left q.2.0 q.2.1 in
+    let g : IsFiling n.n1 n.atoms filed = filing (left_below n q.0 a there) in
+    let at = filed_there n filed g q.0 q.1 (λ e. absurd (subst (Member a) e there)) in
+    let chosen : ℕ = g.chosen q.0 in
+    let some : HasFiled f chosen = all_filed f a left q.2.0 own q.2.1 q.2.2 chosen at.0 in
+    let w = member_at chosen (atoms_of f) (listed_atom f.by_atom chosen some.0 some.1) in
+    (w.0, w.1, (q.0, subst (λ b. Member q.0 (filed_at filed n.atoms b)) (sym (w.2 0)) at.1, q.2))
+
+-- ---- universals
+
+-- filed under the atom of the universal at place i
+abbrev pub OfUniversal : List Triple → Filed → ℕ → ℕ → Type 0
+OfUniversal universals f i m = (t : Triple) × (get_or universals i t ≡ t) × Member m (under f t.atom)
+
+pub by_universal : (n : Normal) (f : Filed) (m : ℕ) → IsBesideExist n f m → (i : ℕ) × (i < length n.n4) × OfUniversal n.n4 f i m
+by_universal n f m q = let w = member_at q.0 n.n4 q.1 in (w.0, w.1, (q.0, w.2 q.0, q.2))
+
+-- filed under the atom at place i, which has a universal
+abbrev pub OfFiled : Normal → Filed → ℕ → ℕ → Type 0
+OfFiled n f i m = ((t : Triple) × Member t n.n4 × (t.atom ≡ get_or (atoms_of f) i 0)) × Member m (under f (get_or (atoms_of f) i 0))
+
+pub by_atom : (n : Normal) (f : Filed) (m : ℕ) → IsBesideExist n f m → (i : ℕ) × (i < length (atoms_of f)) × OfFiled n f i m
+by_atom n f m q =
+    let w = member_at q.0.atom (atoms_of f) (listed_atom f.by_atom q.0.atom m q.2) in
+    (w.0, w.1, ((q.0, q.1, sym (w.2 0)), subst (λ a. Member m (under f a)) (sym (w.2 0)) q.2))
+
+-- a list is empty, or has something
+pub has_some : {X : Type 0} (xs ys : List X) (b : Bool) → xs ≡ ys → b ≡ (length xs == 0) → (not b ≡ true) ↔ ((x : X) × Member x ys)
+has_some xs ys b s e = (
+  λ h. elim (cases_eq (length xs) 0) [
+    | inl z ↦ absurd (not_true (length xs == 0) (ap not (sym e) ∙ h) (eq-eqb (length xs) 0 z))
+    | inr some ↦ some_of xs ys s some
+  ],
+  λ q. none_of xs ys b s e q,
+)
+  where
+    some_of : {X : Type 0} (xs ys : List X) → xs ≡ ys → (length xs ≡ 0 → ⊥) → (x : X) × Member x ys
+    some_of [] ys s h = absurd (h refl)
+    some_of (x ∷ xs) ys s h = (x, subst (λ l. Member x l) s (inl refl))
+
+    none_of : {X : Type 0} (xs ys : List X) (b : Bool) → xs ≡ ys → b ≡ (length xs == 0) → (x : X) × Member x ys → not b ≡ true
+    none_of [] ys b s e q = absurd (subst (λ l. Member q.0 l) (sym s) q.1)
+    none_of (x ∷ xs) ys b s e q = ap not (e ∙ ne_eqb (length (x ∷ xs)) 0 (λ z. absurd (omega arith)))
+
+-- an atom has a universal just where it has a list of some
+pub universal_of : (triples found : List Triple) (a : ℕ) (b : Bool) → AreAtAtom triples a found → b ≡ (length found == 0) → (not b ≡ true) ↔ ((t : Triple) × Member t triples × (t.atom ≡ a))
+universal_of triples found a b h e =
+    let w = has_some found found b refl e in
+    (λ t. (let q = w.0 t in let p = (h q.0).0 q.1 in (q.0, p.0, p.1)), λ q. w.1 (q.0, (h q.0).1 (q.1, q.2)))
+
+-- ---- elements
+
+-- beside the element at place i
+abbrev pub OfElem : Normal → Filed → List Elem → ℕ → ℕ → Type 0
+OfElem n f c i m = IsBeside n f (get_or c i (Plain 0)) m
+
+pub by_elem : (n : Normal) (f : Filed) (c : List Elem) (m : ℕ) → ((e : Elem) × Member e c × IsBeside n f e m) → (i : ℕ) × (i < length c) × OfElem n f c i m
+by_elem n f c m q = let w = member_at q.0 c q.1 in (w.0, w.1, subst (λ e. IsBeside n f e m) (sym (w.2 (Plain 0))) q.2)
+
+-- ---- live numbers
+
+-- k is the number at place i, live, and not that of the premise
+abbrev pub OfLive : List ℕ → List ℕ → ℕ → ℕ → ℕ → Type 0
+OfLive numbers live premise i k = (k ≡ get_or numbers i 0) × Member k live × (k ≡ premise → ⊥)
+
+pub all_live : (numbers live : List ℕ) (premise k : ℕ) → ((i : ℕ) × (i < length numbers) × OfLive numbers live premise i k) ↔ (Member k numbers × Member k live × (k ≡ premise → ⊥))
+all_live numbers live premise k = (
+  λ q. (subst (λ z. Member z numbers) (sym q.2.0) (member_get numbers q.0 0 q.1), q.2.1, q.2.2),
+  λ q. (let w = member_at k numbers q.0 in (w.0, w.1, (sym (w.2 0), q.1, q.2))),
+)

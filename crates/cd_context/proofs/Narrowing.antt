@@ -1,0 +1,109 @@
+-- Where enough clauses stand beside a premise, each conclusion that uses it can be had from them.
+use Rattle.std.proofs.Common.{◌≡◌, ◌⊎◌, ℕ, List, [], ◌∷◌, get_or, refl, sym, ◌∙◌, subst, ap, inl, inr}
+use Rattle.cd_base.specs.Lists.{Member, Within}
+use Rattle.cd_base.specs.declared.normal.Normal.{Normal}
+use Rattle.cd_base.proofs.Members.{member_at}
+use Rattle.cd_clause.specs.declared.elem.Elem.{Elem}
+use Rattle.cd_clause.specs.declared.elem.Elem.TheVariants.{Plain, Exist}
+use Rattle.cd_clause.specs.Elements.{rest}
+use Rattle.cd_clause.specs.Rules.{Rests}
+use Rattle.cd_rules.specs.declared.facts.BackFact.{BackFact}
+use Rattle.cd_rules.specs.declared.facts.DeadFact.{DeadFact}
+use Rattle.cd_rules.specs.Elems.{IsOfElem}
+use Rattle.cd_rules.specs.Facts.{IsPicked}
+use Rattle.cd_rules.proofs.Using.{from_clause_some, some_from_clause}
+use Rattle.cd_store.proofs.Picks.{picked_in, picked_from}
+use Rattle.cd_context.proofs.Besides.{left_read}
+use Rattle.cd_context.specs.Filing.{Filed, IsUnder, IsFiled, AreFiled, under}
+use Rattle.cd_context.specs.Beside.{HasFiled, IsBesideLeft, IsBeside, AreEnough}
+
+module _ (n : Normal) (f : Filed) (clauses : List (List Elem)) (premise : ℕ) (live found numbers : List ℕ)
+    (own : IsFiled f premise (get_or clauses premise []))
+    (gained : (m : ℕ) → ((e : Elem) × Member e (get_or clauses premise []) × IsBeside n f e m) → Member m found)
+    (kept : (m : ℕ) → Member m found → Member m live → (m ≡ premise) ⊎ Member m numbers) where
+  module _ (taken : List ℕ) (alive : Within taken live) (filed : AreFiled f clauses taken) where
+    abbrev Wide : List Elem → Type 0
+    Wide = IsPicked clauses (premise ∷ taken)
+
+    abbrev Narrow : List Elem → Type 0
+    Narrow = IsPicked clauses (premise ∷ numbers)
+
+    -- a clause with an element under which all that is filed was found
+    pick : (c : List Elem) (e : Elem) → Wide c → Member e c → ((m : ℕ) → IsUnder f e m → Member m found) → Narrow c
+    pick c e (inl q) m h = inl q
+    pick c e (inr q) m h =
+        let w = picked_from clauses taken c q in
+        elim (kept w.0 (h w.0 (filed w.0 w.1 e (subst (λ d. Member e d) w.2 m))) (alive w.0 w.1)) [
+          | inl s ↦ inl (w.2 ∙ ap (λ i. get_or clauses i []) s)
+          | inr i ↦ inr (subst (λ d. IsPicked clauses numbers d) (sym w.2) (picked_in clauses numbers w.0 i))
+        ]
+
+    -- what stands in a clause has something filed under it
+    some_filed : (c : List Elem) (a : ℕ) → Wide c → Member (Plain a) c → HasFiled f a
+    some_filed c a (inl q) m = (premise, own (Plain a) (subst (λ d. Member (Plain a) d) q m))
+    some_filed c a (inr q) m = let w = picked_from clauses taken c q in (w.0, filed w.0 w.1 (Plain a) (subst (λ d. Member (Plain a) d) w.2 m))
+
+    rests_filed : (left : List ℕ) (m : List Elem) → Rests n Wide left m → (b : ℕ) → Member b left → HasFiled f b
+    rests_filed [] m r b i = absurd i
+    rests_filed (a ∷ left) m r b (inl e) = subst (HasFiled f) (sym e) (some_filed r.0 a r.1 r.2.isin)
+    rests_filed (a ∷ left) m r b (inr i) = rests_filed left r.3.tail r.3.rests b i
+
+    rests_narrow : (left : List ℕ) (m : List Elem) → ((b : ℕ) → Member b left → (k : ℕ) → Member k (under f b) → Member k found) → Rests n Wide left m → Rests n Narrow left m
+    rests_narrow [] m h r = r
+    rests_narrow (a ∷ left) m h r = (
+      r.0,
+      pick r.0 (Plain a) r.1 r.2.isin (h a (inl refl)),
+      r.2,
+      record { tail = r.3.tail; rests = rests_narrow left r.3.tail (λ b i. h b (inr i)) r.3.rests; is = r.3.is },
+    )
+
+    module _ (backs : List BackFact) (deads : List DeadFact) (key : List ℕ) (d : List Elem) where
+      narrow : (e : Elem) → Member e (get_or clauses premise []) → (others : List Elem) → IsOfElem n key Wide backs deads e others d → IsOfElem n key Narrow backs deads e others d
+      narrow (Plain a) isin others (inl q) = inl q
+      narrow (Plain a) isin others (inr (inl q)) = inr (inl q)
+      narrow (Plain a) isin others (inr (inr (inl q))) =
+          let x = q.0 in
+          let taken_out = q.2 in
+          let at = member_at x n.n1 q.1 in
+          let is = left_read n.n1 at.0 x at.1 (sym (at.2 x)) in
+          let all = rests_filed taken_out.0 taken_out.2.0 taken_out.2.1 in
+          inr (inr (inl (
+            x,
+            q.1,
+            (
+              taken_out.0,
+              taken_out.1,
+              (
+                taken_out.2.0,
+                rests_narrow taken_out.0 taken_out.2.0
+                    (λ b i k u. gained k (Plain a, isin, inl (at.0, at.1, subst (λ l. IsBesideLeft f a l k) (sym is) (taken_out.0, taken_out.1, all, (b, i, u)))))
+                    taken_out.2.1,
+                taken_out.2.2,
+              ),
+            ),
+          )))
+      narrow (Plain a) isin others (inr (inr (inr q))) =
+          let c = q.3.0 in
+          let z = q.3.2 in
+          inr (inr (inr (
+            q.0,
+            q.1,
+            q.2,
+            (c, pick c (Exist z.0 z.1) q.3.1 z.2.isin (λ m u. gained m (Plain a, isin, inr ((q.0, q.1, q.2), u))), z),
+          )))
+      narrow (Exist r k) isin others (inl q) = inl q
+      narrow (Exist r k) isin others (inr (inl q)) = inr (inl q)
+      narrow (Exist r k) isin others (inr (inr q)) =
+          let b = q.3.0 in
+          inr (inr (
+            q.0,
+            q.1,
+            q.2,
+            (b, pick b (Plain q.0.atom) q.3.1 q.3.2.isin (λ m u. gained m (Exist r k, isin, (q.0, q.1, u))), q.3.2, q.3.3),
+          ))
+
+  pub enough : AreEnough n f clauses premise live numbers
+  enough taken alive filed key backs deads d q =
+      let s = from_clause_some n key clauses taken premise backs deads d q in
+      some_from_clause n key clauses numbers premise backs deads d
+      (s.0, s.1, narrow taken alive filed backs deads key d s.0 s.1.isin (rest s.0 (get_or clauses premise [])) s.2)

@@ -1,0 +1,73 @@
+-- What the rules derive where each 2 has an edge to a 4, and whoever has an edge to a 4 is a 5.
+use Rattle.std.proofs.Common.{◌≡◌, ℕ, true, List, [], ◌∷◌, refl, sym, subst, inl, inr}
+use Rattle.std.proofs.lemmas.Bool.{cond_both}
+use Rattle.cd_base.specs.Keys.{plain, negated, is_named}
+use Rattle.cd_base.specs.Lists.{Member}
+use Rattle.cd_base.specs.Normal.{same}
+use Rattle.cd_base.specs.declared.normal.Normal.{Normal}
+use Rattle.cd_clause.specs.declared.elem.Elem.{Elem}
+use Rattle.cd_clause.specs.declared.elem.Elem.TheVariants.{Plain, Exist}
+use Rattle.cd_clause.specs.Derivations.{Reachable, Derived, HasDerived}
+use Rattle.cd_clause.specs.Dictionary.{is_at_most}
+use Rattle.cd_clause.specs.Elements.{Eligible, rank}
+use Rattle.cd_clause.specs.Rules.{by_init, by_neg, by_ex, by_back}
+use Rattle.cd_clause.proofs.Derive.{derived_closed}
+use Rattle.cd_clause.proofs.Dictionary.{at_most_refl}
+use Rattle.cd_context.specs.declared.facts.Fact.TheVariants.{Back, Dead}
+use Rattle.cd_context.specs.Justified.{Justified}
+
+module _ (n : Normal) where
+  -- an element alone in a clause is eligible
+  alone : (e : Elem) → Eligible n e (e ∷ [])
+  alone e = record {
+    isin = inl refl;
+    top = λ f m. elim m [ inl q ↦ subst (λ (x : Elem). is_at_most (rank n x) (rank n e) ≡ true) (sym q) (at_most_refl (rank n e)) | inr k ↦ absurd k ];
+  }
+
+  -- an existential beside an atom is eligible
+  above : (a r : ℕ) (k : List ℕ) → Eligible n (Exist r k) (Plain a ∷ Exist r k ∷ [])
+  above a r k = record {
+    isin = inr (inl refl);
+    top = λ f m. elim m [
+      | inl q ↦ subst (λ (x : Elem). is_at_most (rank n x) (2 ∷ r ∷ k) ≡ true) (sym q)
+          (cond_both (is_named n a) (0 ∷ []) (1 ∷ a ∷ []) (λ z. is_at_most z (2 ∷ r ∷ k) ≡ true) (λ t. refl) (λ t. refl))
+      | inr l ↦ elim l [ inl q ↦ subst (λ (x : Elem). is_at_most (rank n x) (2 ∷ r ∷ k) ≡ true) (sym q) (at_most_refl (2 ∷ r ∷ k)) | inr z ↦ absurd z ]
+    ];
+  }
+
+  in_key : (a : ℕ) (key : List ℕ) → Member (plain a) key → Derived n key (Plain a ∷ [])
+  in_key a key m = derived_closed n key (Plain a ∷ []) (by_init a m (λ x u. u, λ x u. u))
+
+  module _ (edge : Member (record { atom = 2; role = 0; other = 4 }) n.n2) where
+    edge_to_four : Derived n (plain 2 ∷ []) (Exist 0 (plain 4 ∷ []) ∷ [])
+    edge_to_four = derived_closed n (plain 2 ∷ []) (Exist 0 (plain 4 ∷ []) ∷ [])
+        (by_ex (record { atom = 2; role = 0; other = 4 }) (Plain 2 ∷ []) edge (in_key 2 (plain 2 ∷ []) (inl refl)) (alone (Plain 2)) (λ x u. u, λ x u. u))
+
+    four_in_four : HasDerived n (plain 4 ∷ []) (Plain 4)
+    four_in_four = (Plain 4 ∷ [], in_key 4 (plain 4 ∷ []) (inl refl), alone (Plain 4))
+
+    pub back_justified : (key k : List ℕ) → key ≡ plain 2 ∷ [] → k ≡ plain 4 ∷ [] → Reachable n key → Justified n key (Back 0 k 4)
+    back_justified key k p q reachable = (
+      reachable,
+      subst (λ (x : List ℕ). HasDerived n x (Exist 0 k)) (sym p) (subst (λ (y : List ℕ). HasDerived n (plain 2 ∷ []) (Exist 0 y)) (sym q)
+          (Exist 0 (plain 4 ∷ []) ∷ [], edge_to_four, alone (Exist 0 (plain 4 ∷ [])))),
+      subst (λ (y : List ℕ). HasDerived n y (Plain 4)) (sym q) four_in_four,
+    )
+
+    module _ (back : Member (record { atom = 4; role = 0; other = 5 }) n.n3) where
+      five_or_edge : Derived n (plain 2 ∷ []) (Plain 5 ∷ Exist 0 (plain 4 ∷ negated 4 ∷ []) ∷ [])
+      five_or_edge = derived_closed n (plain 2 ∷ []) (Plain 5 ∷ Exist 0 (plain 4 ∷ negated 4 ∷ []) ∷ [])
+          (by_back (record { atom = 4; role = 0; other = 5 }) (Exist 0 (plain 4 ∷ []) ∷ []) 0 (plain 4 ∷ []) back edge_to_four (alone (Exist 0 (plain 4 ∷ []))) four_in_four same
+          (λ x u. u, λ x u. u))
+
+      empty : Derived n (plain 4 ∷ negated 4 ∷ []) []
+      empty = derived_closed n (plain 4 ∷ negated 4 ∷ []) []
+          (by_neg 4 (Plain 4 ∷ []) (in_key 4 (plain 4 ∷ negated 4 ∷ []) (inl refl)) (alone (Plain 4)) (inr (inl refl)) (λ x u. u, λ x u. u))
+
+      pub dead_justified : (key k : List ℕ) → key ≡ plain 2 ∷ [] → k ≡ plain 4 ∷ negated 4 ∷ [] → Reachable n key → Justified n key (Dead 0 k)
+      dead_justified key k p q reachable = (
+        reachable,
+        subst (λ (x : List ℕ). HasDerived n x (Exist 0 k)) (sym p) (subst (λ (y : List ℕ). HasDerived n (plain 2 ∷ []) (Exist 0 y)) (sym q)
+            (Plain 5 ∷ Exist 0 (plain 4 ∷ negated 4 ∷ []) ∷ [], five_or_edge, above 5 0 (plain 4 ∷ negated 4 ∷ []))),
+        subst (λ (y : List ℕ). Derived n y []) (sym q) empty,
+      )

@@ -1,0 +1,12 @@
+use Rattle.std.proofs.Common.{◌≡◌, ◌+◌, length, arith}
+use Rattle.std.proofs.lemmas.List.{length_push}
+use Rattle.cd_top.proofs.Runs.{answers_more}
+use Rattle.cd_top.proofs.answers.all_answers.Goals as goal
+
+pub classes-preserved : goal.classes-preserved
+classes-preserved c =
+    let i = c.classes.invariant in
+    record {
+      each = omega (arith, c.in_ok-push.ensures.len, i.each);
+      are = answers_more c.args.count c.classes.class c.args.cells.now c.classes.above.items c.push.new.self.items c.in_ok-answer_in.field-0 i.each i.are c.in_ok-answer_in.ensures c.in_ok-push.ensures.items;
+    }
