@@ -1,10 +1,7 @@
 -- The answers of closed cells are those to the document.
-use Rattle.std.proofs.Common.{◌≡◌, ℕ, zero, suc, ◌<◌, Bool, List, [], ◌∷◌, length, get_or, slice_index_or, refl, sym, ap, subst, ◌∙◌, arith}
+use Rattle.std.proofs.Common.{◌≡◌, ℕ, zero, suc, ◌<◌, List, [], ◌∷◌, length, get_or, slice_index_or, refl, ap, subst, arith}
 use Rattle.std.specs.Prelude.{Result, Ok, Err}
-use Rattle.std.specs.List.{All}
 use Rattle.cd_actor.specs.Cells.{At}
-use Rattle.cd_base.specs.Keys.{plain}
-use Rattle.cd_base.specs.Lists.{Member}
 use Rattle.cd_base.specs.declared.answer.Answer.{Answer}
 use Rattle.cd_base.specs.declared.answer.Answer.TheVariants.{Unsatisfiable}
 use Rattle.cd_base.specs.declared.limit_kind.LimitKind.{LimitKind}

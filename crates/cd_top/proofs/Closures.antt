@@ -1,6 +1,5 @@
 -- The role closure of normal axioms as a test of all numbers.
-use Rattle.std.proofs.Common.{◌≡◌, ℕ, ◌<◌, ◌⊎◌, ◌||◌, ◌&&◌, ◌==◌, inl, inr, nat_lt, Bool, true, List, refl, sym, ap, subst, ◌∙◌, arith, eqb-true, eq-eqb}
-use Rattle.std.specs.List.{list_all}
+use Rattle.std.proofs.Common.{◌≡◌, ℕ, ◌<◌, ◌⊎◌, ◌||◌, ◌&&◌, ◌==◌, inl, inr, nat_lt, Bool, true, List, refl, subst, arith, eqb-true, eq-eqb}
 use Rattle.std.proofs.lemmas.Bool.{and_parts, and_from, or_cases, or_left, or_right, ltb-true, lt-ltb}
 use Rattle.cd_base.specs.Lists.{Member}
 use Rattle.cd_base.specs.Normal.{Under, same, step, has_roles_below, has_numbers_below}
@@ -8,7 +7,7 @@ use Rattle.cd_base.specs.declared.normal.Normal.{Normal}
 use Rattle.cd_base.specs.declared.normal.RolePair.{RolePair}
 use Rattle.cd_base.specs.declared.normal.Triple.{Triple}
 use Rattle.cd_base.proofs.Members.{all_member}
-use Rattle.cd_cell.specs.Canonical.{IsClosure, RolesInRange}
+use Rattle.cd_cell.specs.Canonical.{RolesInRange}
 use Rattle.cd_index.specs.Closure.{is_under, IsClosureOf}
 use Rattle.cd_top.specs.Saturation.{HasClosure}
 

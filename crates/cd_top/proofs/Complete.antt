@@ -20,7 +20,7 @@ not_refused input most (Depth place) accepted refused = refused.2 accepted.1 acc
 abbrev pub Ends : Status → Type 0
 Ends status = (status ≡ Done) ⊎ (status ≡ Memory)
 
-by_status : (status : Status) → ((refusal : Refusal) → status ≡ Refused refusal → ⊥) → ((kind : LimitKind) (number : ℕ) → status ≡ Limit kind number → ⊥) → (status ≡ Usage → ⊥)
+pub by_status : (status : Status) → ((refusal : Refusal) → status ≡ Refused refusal → ⊥) → ((kind : LimitKind) (number : ℕ) → status ≡ Limit kind number → ⊥) → (status ≡ Usage → ⊥)
     → (status ≡ ReadFault → ⊥) → (status ≡ WriteFault → ⊥) → Ends status
 by_status Done refused limit usage read write = inl refl
 by_status Memory refused limit usage read write = inr refl

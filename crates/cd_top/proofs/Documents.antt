@@ -1,9 +1,9 @@
 -- What normal axioms by the method entail, their document entails.
-use Rattle.std.proofs.Common.{◌≡◌, ◌==◌, ℕ, zero, suc, ◌-◌, ◌<◌, ◌↔◌, IsTrue, Bool, true, false, List, [], ◌++◌, ◌∷◌, length, map, replicate, get_or, slice_index_or, refl, sym, ap, subst, ◌∙◌, inl, inr, arith}
+use Rattle.std.proofs.Common.{◌≡◌, ◌==◌, ℕ, zero, suc, ◌-◌, ◌<◌, ◌↔◌, IsTrue, Bool, true, false, List, [], ◌∷◌, length, map, get_or, refl, sym, ap, subst, ◌∙◌, inl, inr, arith}
 use Rattle.std.specs.List.{All, list_any}
 use Rattle.std.proofs.lemmas.Bool.{cases_lt, false≢true, both_ways, eqb-true, eq-eqb}
 use Rattle.std.proofs.lemmas.List.{get_or_append_left, get_or-append_right, length-map, get_or-map, length-take}
-use Rattle.cd_base.specs.Keys.{plain, is_named}
+use Rattle.cd_base.specs.Keys.{is_named}
 use Rattle.cd_base.specs.Lists.{Member}
 use Rattle.cd_base.specs.declared.answer.Answer.{Answer}
 use Rattle.cd_base.specs.declared.answer.Answer.TheVariants.{Unsatisfiable, Of}
@@ -13,7 +13,7 @@ use Rattle.cd_clause.specs.declared.elem.Elem.{Elem}
 use Rattle.cd_cell.specs.Exactness.{Exact, NoneIn, AllIn}
 use Rattle.cd_cell.specs.Subsumers.{IsAnswerOf}
 use Rattle.cd_meaning.specs.Entailment.{Entails}
-use Rattle.cd_meaning.specs.Membership.{class_has, member}
+use Rattle.cd_meaning.specs.Membership.{member}
 use Rattle.cd_meaning.specs.MembershipTable.{member-Name}
 use Rattle.cd_meaning.specs.declared.document.Document.{Document}
 use Rattle.cd_meaning.specs.declared.expression.Expr.TheVariants.{Name}

@@ -1,9 +1,11 @@
 pub mod Answered
+pub mod Asked
 pub mod Closures
 pub mod Complete
 pub mod Documents
 pub mod Fronts
-pub mod OneWord
+pub mod LeastTrial
 pub mod Runs
 pub mod Said
 pub mod Told
+pub mod Trials

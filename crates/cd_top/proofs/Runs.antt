@@ -1,10 +1,9 @@
 -- What a run over new cells with the start messages comes to.
-use Rattle.std.proofs.Common.{◌≡◌, ℕ, zero, suc, ◌+◌, ◌<◌, ◌≤◌, ◌⊎◌, inl, inr, Bool, List, [], ◌∷◌, ◌++◌, length, min, refl, sym, ap, subst, ◌∙◌, arith, true}
-use Rattle.std.proofs.lemmas.List.{length_push}
+use Rattle.std.proofs.Common.{◌≡◌, ℕ, zero, suc, ◌+◌, ◌<◌, ◌⊎◌, inl, inr, Bool, List, [], ◌∷◌, ◌++◌, length, refl, sym, ap, subst, ◌∙◌, arith, true}
 use Rattle.cd_base.specs.Keys.{plain, is_named}
 use Rattle.cd_base.specs.Lists.{Member}
 use Rattle.cd_base.specs.declared.normal.Normal.{Normal}
-use Rattle.cd_actor.specs.Cells.{At, AreCells, AreOf, IsLawful, Had, HadOrPends, total}
+use Rattle.cd_actor.specs.Cells.{At, AreCells, AreOf, IsLawful, Had, total}
 use Rattle.cd_base.proofs.Members.{member_left, member_right, member_cases}
 use Rattle.cd_base.specs.declared.answer.Answer.{Answer}
 use Rattle.std.proofs.lemmas.Bool.{cases_lt}
@@ -13,9 +12,8 @@ use Rattle.cd_cell.specs.Subsumers.{HasContext, IsSubsumers}
 use Rattle.cd_context.specs.declared.facts.Fact.TheVariants.{Start}
 use Rattle.cd_core.specs.State.{KeepsFamily}
 use Rattle.cd_clause.specs.Derivations.{from_named}
-use Rattle.cd_context.specs.Facts.{has_fact}
 use Rattle.cd_context.specs.declared.facts.Note.{Note}
-use Rattle.cd_cell.specs.Cells.{CellState, IsWhole, IsCell, IsLawfulNote, OwesFrom, place_of, meaning}
+use Rattle.cd_cell.specs.Cells.{CellState, IsWhole, IsCell, IsLawfulNote, meaning}
 use Rattle.cd_cell.specs.ClosedCells.{AreClosed}
 use Rattle.cd_cell.specs.Counts.{HasContexts, HasFacts}
 use Rattle.cd_cell.proofs.CountedCells.{cell_counts}

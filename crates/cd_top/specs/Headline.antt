@@ -1,5 +1,5 @@
 -- What the classify command promises.
-use Rattle.std.specs.Prelude.{◌≡◌, ℕ, ◌≤◌, List, [], ◌∷◌, length, codes, Option, Some}
+use Rattle.std.specs.Prelude.{◌≡◌, ℕ, ◌≤◌, List, [], length, Option, Some}
 use Rattle.std.specs.Io.KnownBytes.{Appends}
 use Rattle.cd_io.specs.Streams.{AppendsFront}
 use Rattle.cd_grammar.specs.Grammar.{IsRead}
@@ -8,19 +8,9 @@ use Rattle.cd_meaning.specs.Answer.{IsAnswer, SaysEntailed}
 use Rattle.cd_base.specs.declared.limit_kind.LimitKind.{LimitKind}
 use Rattle.cd_top.specs.Limit.{IsReached}
 
--- the words are the one command
-abbrev pub AsksClassify : List (List ℕ) → Type 0
-AsksClassify words = words ≡ codes "classify" ∷ []
-
--- how many bytes of input the command takes, and the maxima of contexts and of facts
+-- how many bytes of input the command takes: no option sets it
 abbrev pub standard_bytes : ℕ
 standard_bytes = 268435456
-
-abbrev pub standard_contexts : ℕ
-standard_contexts = 1000000
-
-abbrev pub standard_facts : ℕ
-standard_facts = 10000000
 
 -- the input is a document of at most so many bytes
 abbrev pub IsAccepted : List ℕ → ℕ → Type 0

@@ -3,3 +3,4 @@ pub mod Headline
 pub mod Limit
 pub mod Saturation
 pub mod Status
+pub mod Trial

@@ -1,12 +1,11 @@
 -- When a run has reached a maximum.
-use Rattle.std.specs.Prelude.{ℕ, ◌≤◌, List, length}
+use Rattle.std.specs.Prelude.{ℕ, ◌≤◌}
 use Rattle.cd_base.specs.declared.limit_kind.LimitKind.{LimitKind}
 use Rattle.cd_base.specs.declared.limit_kind.LimitKind.TheVariants.{Contexts, Facts}
 use Rattle.cd_base.specs.declared.normal.Normal.{Normal}
 use Rattle.cd_meaning.specs.declared.document.Document.{Document}
 use Rattle.cd_normal.specs.Method.{IsByMethod}
 use Rattle.cd_cell.specs.Counts.{HasContexts, HasFacts}
-use Rattle.cd_grammar.specs.Grammar.{IsRead}
 use Rattle.cd_top.specs.declared.answers.Halt.{Halt}
 use Rattle.cd_top.specs.declared.answers.Halt.TheVariants.{Limit, Memory}
 

@@ -95,7 +95,7 @@ fn answer_of<S: Source>(alloc: Global, source: &mut S, limits: &Limits) -> Resul
 }
 
 /// Writes the whole text and hands it on. At most a write for each byte.
-fn publish<K: Sink>(out: &mut K, text: &[u8]) -> Result<(), WriteFault>
+pub(crate) fn publish<K: Sink>(out: &mut K, text: &[u8]) -> Result<(), WriteFault>
     ensures all { OnOk result (Appends (K.written out.old) (K.written out.new) text.now) }
     ensures finished { OnOk result (K.finished out.new ≡ true) }
     ensures front { AppendsFront (K.written out.old) (K.written out.new) text.now }

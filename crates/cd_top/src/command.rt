@@ -1,22 +1,29 @@
 //! The command words, and the line on the notes.
-ghost use Rattle.std.specs.Prelude.{◌≡◌, ◌≤◌, ◌⊎◌, ◌↔◌, true, IsTrue, IfSome, List, ℕ, map, string_bytes, codes};
+ghost use Rattle.std.specs.Prelude.{◌≡◌, ◌≤◌, ◌⊎◌, ◌↔◌, true, IfSome, List, ℕ, map, string_bytes};
 ghost use Rattle.cd_io.specs.Causes.{Rose};
-ghost use Rattle.cd_top.specs.Headline.{AsksClassify, standard_bytes, standard_contexts, standard_facts, IsAccepted, IsAnswerable, IsClassified, IsLimited, IsPartlyAnswered};
+ghost use Rattle.cd_base.specs.declared.limits.Limits.{Limits};
+ghost use Rattle.cd_top.specs.Headline.{standard_bytes, IsAccepted, IsAnswerable, IsClassified, IsLimited, IsPartlyAnswered};
+ghost use Rattle.cd_top.specs.Trial.{IsTried, IsPartlyTried, IsTrialLimited, IsTrialAnswerable};
 ghost use Rattle.cd_grammar.specs.Reading.{IsRefused};
 ghost use Rattle.cd_grammar.specs.declared.refusal.Refusal.{Refusal};
 ghost use Rattle.cd_base.specs.declared.limit_kind.LimitKind.{LimitKind};
-ghost use Rattle.cd_top.specs.Status.{line_of, IsEarly, IsNoted};
+ghost use Rattle.cd_top.specs.Status.{line_of, status_of, IsEarly, IsNoted};
+ghost use Rattle.cd_words.specs.Form.{Asks, IsOfForm};
 
 use crate::classify::classify;
 use crate::notes::note;
 use crate::status::Status;
+use crate::trial::trial_here;
 use cd_base::Limits;
 use cd_io::{Sink, Source};
+use cd_words::{AskFault, Command, ask};
 use std::alloc::Global;
 
-/// All that the program does: reads the words, then the input, and writes the answer to `out` and a line on any other end to `notes`.
+/// All that the program does: reads the words, does what they ask, and puts a line on any other end than `Done` on `notes`.
 ///
-/// The one command is the one word `classify`. Costs what `classify_here` does.
+/// The form of the words is that of `cd_words::ask`. `classify` reads the input and writes its answer to `out`. `trial n` leaves the
+/// input unread: it answers the generated document of n levels, and writes the four lines of its summary. Both do so under the limits
+/// that the words give, but for the workers: there is one. Linear in the bytes of the words, and then what `classify_here` costs.
 pub fn run<S: Source, K: Sink, E: Sink>(
     alloc: Global,
     words: &[String],
@@ -24,39 +31,67 @@ pub fn run<S: Source, K: Sink, E: Sink>(
     out: &mut K,
     notes: &mut E,
 ) -> Status
-    // The headline: the input was an accepted document, read to its end, and exactly one text was written: its answer.
-    ensures done { IfSome (S.left source.old) (λ input. result ≡ Status.Done →
-        IsClassified input standard_bytes (S.left source.new) (K.written out.old) (K.written out.new)) }
-    ensures ended { result ≡ Status.Done → (S.ended source.new ≡ true) × (K.finished out.new ≡ true) }
+    // The headline: where the words ask for it, the input was an accepted document, read to its end, and exactly one text was written:
+    // its answer.
+    ensures done { (limits : Limits) → Asks (map string_bytes words.now) Command.Classify limits
+        → IfSome (S.left source.old) (λ input. result ≡ Status.Done →
+        IsClassified input limits.max_bytes (S.left source.new) (K.written out.old) (K.written out.new)) }
+    ensures ended { (limits : Limits) → Asks (map string_bytes words.now) Command.Classify limits → result ≡ Status.Done → S.ended source.new ≡ true }
+    ensures finished { result ≡ Status.Done → K.finished out.new ≡ true }
 
     // Each other status has its cause.
-    ensures usage { (result ≡ Status.Usage) ↔ (AsksClassify (map string_bytes words.now) → ⊥) }
+    ensures usage { (result ≡ Status.Usage) ↔ (IsOfForm (map string_bytes words.now) → ⊥) }
     ensures read_fault { result ≡ Status.ReadFault → Rose (S.faults source.old) (S.faults source.new) }
     ensures write_fault { result ≡ Status.WriteFault → Rose (K.faults out.old) (K.faults out.new) }
     ensures refused { IfSome (S.left source.old) (λ input. (refusal : Refusal) → result ≡ Status.Refused refusal
         → IsRefused input standard_bytes refusal) }
-    ensures limit { IfSome (S.left source.old) (λ input. (kind : LimitKind) (number : ℕ) → result ≡ Status.Limit kind number
-        → IsLimited input standard_bytes standard_contexts standard_facts kind number) }
-    ensures unaccepted { IfSome (S.left source.old) (λ input. (IsAccepted input standard_bytes → ⊥) → IsEarly result) }
+    ensures limit { (limits : Limits) → Asks (map string_bytes words.now) Command.Classify limits
+        → IfSome (S.left source.old) (λ input. (kind : LimitKind) (number : ℕ) → result ≡ Status.Limit kind number
+        → IsLimited input limits.max_bytes limits.max_contexts limits.max_facts kind number) }
+    ensures unaccepted { (limits : Limits) → Asks (map string_bytes words.now) Command.Classify limits
+        → IfSome (S.left source.old) (λ input. (IsAccepted input limits.max_bytes → ⊥) → IsEarly result) }
 
     // An accepted input by which no maximum is reached is answered unless a fault rose or memory ran out.
-    ensures complete { IfSome (S.left source.old) (λ input. AsksClassify (map string_bytes words.now) → IsAnswerable input standard_bytes standard_contexts standard_facts →
-        (Rose (S.faults source.old) (S.faults source.new) → ⊥) → (Rose (K.faults out.old) (K.faults out.new) → ⊥)
+    ensures complete { (limits : Limits) → Asks (map string_bytes words.now) Command.Classify limits
+        → IfSome (S.left source.old) (λ input. IsAnswerable input limits.max_bytes limits.max_contexts limits.max_facts
+        → (Rose (S.faults source.old) (S.faults source.new) → ⊥) → (Rose (K.faults out.old) (K.faults out.new) → ⊥)
         → (result ≡ Status.Done) ⊎ (result ≡ Status.Memory)) }
+
+    // A trial of n levels: exactly one text was written, the summary of what the generated document entails.
+    ensures tried { (n : ℕ) (limits : Limits) → Asks (map string_bytes words.now) (Command.Trial n) limits
+        → result ≡ Status.Done → IsTried n (K.written out.old) (K.written out.new) }
+    ensures trial_limit { (n : ℕ) (limits : Limits) → Asks (map string_bytes words.now) (Command.Trial n) limits
+        → (kind : LimitKind) (number : ℕ) → result ≡ Status.Limit kind number → IsTrialLimited n limits.max_contexts limits.max_facts kind number }
+    ensures trial_complete { (n : ℕ) (limits : Limits) → Asks (map string_bytes words.now) (Command.Trial n) limits
+        → IsTrialAnswerable n limits.max_contexts limits.max_facts → (Rose (K.faults out.old) (K.faults out.new) → ⊥)
+        → (result ≡ Status.Done) ⊎ (result ≡ Status.Memory) }
+    ensures trial_partly { (n : ℕ) (limits : Limits) → Asks (map string_bytes words.now) (Command.Trial n) limits
+        → result ≡ Status.WriteFault → IsPartlyTried n (K.written out.old) (K.written out.new) }
+    ensures trial_unread { (n : ℕ) (limits : Limits) → Asks (map string_bytes words.now) (Command.Trial n) limits → source.new ≡ source.old }
+    ensures trial_unrefused { (n : ℕ) (limits : Limits) → Asks (map string_bytes words.now) (Command.Trial n) limits
+        → (refusal : Refusal) → result ≡ Status.Refused refusal → ⊥ }
+    ensures trial_read_fault { (n : ℕ) (limits : Limits) → Asks (map string_bytes words.now) (Command.Trial n) limits → result ≡ Status.ReadFault → ⊥ }
 
     // What stands after it.
     ensures unread { result ≡ Status.Usage → source.new ≡ source.old }
     ensures unwritten { IsEarly result → out.new ≡ out.old }
-    ensures partly { IfSome (S.left source.old) (λ input. result ≡ Status.WriteFault →
-        IsPartlyAnswered input standard_bytes (K.written out.old) (K.written out.new)) }
+    ensures partly { (limits : Limits) → Asks (map string_bytes words.now) Command.Classify limits
+        → IfSome (S.left source.old) (λ input. result ≡ Status.WriteFault →
+        IsPartlyAnswered input limits.max_bytes (K.written out.old) (K.written out.new)) }
     ensures noted { IsNoted (E.written notes.old) (E.written notes.new) (E.faults notes.old) (E.faults notes.new) (line_of result) }
     ensures quiet { result ≡ Status.Done → notes.new ≡ notes.old }
 {
-    if asks_classify(words) {
-        return classify_here(alloc, source, out, notes, &Limits::standard());
+    match ask(alloc, words) {
+        Ok(asked) => match asked.command {
+            Command::Classify => classify_here(alloc, source, out, notes, &asked.limits),
+            Command::Trial(levels) => trial_here(alloc, levels, out, notes, &asked.limits),
+        },
+        Err(fault) => {
+            let status = status_of(fault);
+            note(notes, status);
+            status
+        }
     }
-    note(notes, Status::Usage);
-    Status::Usage
 }
 
 /// The classify command on one thread: it waits for nobody and always returns.
@@ -102,16 +137,12 @@ pub fn classify_here<S: Source, K: Sink, E: Sink>(
     status
 }
 
-/// Whether the words are the one word `classify`. In constant time.
-fn asks_classify(words: &[String]) -> bool
-    ensures { IsTrue result ↔ AsksClassify (map string_bytes words.now) }
+/// The status where the words ask for nothing.
+fn status_of(fault: AskFault) -> Status
+    ensures { result ≡ status_of fault }
 {
-    words.len() == 1 && is_classify(&words[0])
-}
-
-/// Whether the word is `classify`. In constant time.
-fn is_classify(word: &String) -> bool
-    ensures { IsTrue result ↔ (string_bytes word.now ≡ codes "classify") }
-{
-    word.as_str() == "classify"
+    match fault {
+        AskFault::Usage => Status::Usage,
+        AskFault::Memory => Status::Memory,
+    }
 }

@@ -1,19 +1,22 @@
-//! The command that classifies an ontology: from the bytes of a document to the bytes of its answer.
+//! The commands: one that classifies an ontology, from the bytes of a document to the bytes of its answer, and one that tries this on a
+//! document made by rule.
 //!
 //! `run` is all that a program has to call. A caller that has limits of its own calls `classify_here`.
 //!
 //! The road of a document, by modules: `cd_grammar` reads it. `indexing` makes its normal axioms (`cd_normal`, `cd_index`), `saturation`
 //! works the cells with the contexts until each conclusion is redundant (`cd_core`, `cd_cell`), `answers` asks them for the superclasses
-//! of each class, and `answer` has `cd_taxonomy` write the text. `classify` reads, answers and writes; `command` looks at the words before it, and `notes` puts a line
-//! on the notes after it. `status` has the ways in which a run ends.
+//! of each class, and `answer` has `cd_taxonomy` write the text. `classify` reads, answers and writes. `trial` takes the same road with
+//! the document that `cd_gen` makes, up to the taxonomy, and writes its summary. `command` has `cd_words` look at the words before it,
+//! and `notes` puts a line on the notes after it. `status` has the ways in which a run ends.
 //!
 //! Nothing is written before the whole answer is there. So the output is as it was where the input is refused, a read fails or
 //! memory runs out, and after a write that failed it has a front of the one right text, never a part of another.
 //!
 //! Each status has its cause. `ReadFault` and `WriteFault` come only where the stream's count of faults rose in this run, `Refused`
 //! only where the input is too long or has that first fault, `Limit` only where the contexts of the document, or their facts, are as
-//! many as a maximum, and `Usage` exactly where the words are no command. So an accepted document that reaches no maximum is answered
-//! where no fault rose, unless memory runs out: of `Memory` alone the contracts name no cause.
+//! many as a maximum, and `Usage` exactly where the words are outside the form. So an accepted document that reaches no maximum is
+//! answered where no fault rose, unless memory runs out: of `Memory` alone the contracts name no cause. A trial leaves the input as it
+//! was, and ends with neither `Refused` nor `ReadFault`.
 #![tactic(auto)]
 
 mod answer;
@@ -24,6 +27,7 @@ mod indexing;
 mod notes;
 mod saturation;
 mod status;
+mod trial;
 
 pub use command::{classify_here, run};
 pub use status::Status;

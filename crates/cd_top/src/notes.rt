@@ -40,7 +40,8 @@ fn fixed_line(status: Status) -> &'static [u8]
     ensures { has_fixed_line status ≡ true → result.now ≡ line_of status }
 {
     match status {
-        Status::Usage => b"condor: usage: condor classify\n",
+        Status::Usage =>
+            b"condor: usage: condor classify|trial n [--workers n] [--cells n] [--max-contexts n] [--max-facts n]\n",
         Status::ReadFault => b"condor: reading failed\n",
         Status::WriteFault => b"condor: writing failed\n",
         Status::Memory => b"condor: out of memory\n",

@@ -12,13 +12,13 @@ pub enum Status {
     Done,
     /// The input is no document: its first fault.
     Refused(Refusal),
-    /// The words are not those of a command.
+    /// The words are outside the form.
     Usage,
     /// A maximum was reached: which, and the count that has reached it.
     Limit(LimitKind, u64),
     /// A read failed.
     ReadFault,
-    /// A write failed. What was written is a front of the answer.
+    /// A write failed. What was written is a front of the answer, or of the summary at a trial.
     WriteFault,
     /// Memory ran out.
     Memory,

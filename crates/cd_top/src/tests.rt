@@ -16,6 +16,9 @@ const ONE_SUBSUMPTION: &str = "Ontology(SubClassOf(<x:A> <x:B>))";
 const ITS_TEXT: &str =
     "Ontology(\nSubClassOf(<x:A> <x:B>)\nSubClassOf(<x:B> <http://www.w3.org/2002/07/owl#Thing>)\n)\n";
 
+const USAGE: &str =
+    "condor: usage: condor classify|trial n [--workers n] [--cells n] [--max-contexts n] [--max-facts n]\n";
+
 /// What a run gave, and what it left on its sinks.
 #[derive(Drop)]
 struct Ended {
@@ -282,16 +285,82 @@ fn a_refused_document_names_what_is_wrong_and_where(rt: HostRuntime) -> Result<(
 
 #[test]
 fn other_words_read_nothing_and_name_the_usage(rt: HostRuntime) -> Result<(), Fail> {
-    for words in ["", "classify classify", "Classify", "--help"] {
+    for words in [
+        "",
+        "classify classify",
+        "Classify",
+        "--help",
+        "classify --workers 0",
+        "classify --workers 2 --workers 2",
+        "trial",
+        "trial 0",
+        "trial 20001",
+    ] {
         let ran = run_over_memory(rt.alloc(), words, ONE_SUBSUMPTION)?;
         assert_eq!(rt; ran.status.code(), 2, "{words}");
         assert!(rt; ran.out.bytes().is_empty(), "{words}");
-        assert_eq!(rt;
-            ran.notes.bytes(),
-            "condor: usage: condor classify\n".as_bytes(),
-            "{words}"
-        );
+        assert_eq!(rt; ran.notes.bytes(), USAGE.as_bytes(), "{words}");
         assert_eq!(rt; ran.unread, ONE_SUBSUMPTION.len(), "{words}");
+    }
+    Ok(())
+}
+
+/// Whether the words give this text and nothing else, and leave the input as it was.
+fn is_tried(alloc: Global, words: &str, expected: &str) -> Result<bool, Fail> {
+    let ran = run_over_memory(alloc, words, ONE_SUBSUMPTION)?;
+    Ok(
+        ran.status == Status::Done
+            && ran.out.bytes() == expected.as_bytes()
+            && ran.notes.bytes().is_empty()
+            && ran.unread == ONE_SUBSUMPTION.len(),
+    )
+}
+
+#[test]
+fn a_trial_counts_what_its_document_entails_and_reads_nothing(rt: HostRuntime) -> Result<(), Fail> {
+    // n levels have 4n + 4 classes in 3n + 4 groups, n classes that can have no member, and 4n + 1 direct superclasses.
+    for (words, expected) in [
+        (
+            "trial 3",
+            "names 16\ngroups 13\nunsatisfiable 3\nlinks 13\n",
+        ),
+        (
+            "--cells=1 trial --max-contexts 4000000 3 --max-facts=40000000",
+            "names 16\ngroups 13\nunsatisfiable 3\nlinks 13\n",
+        ),
+        (
+            "trial 1000",
+            "names 4004\ngroups 3004\nunsatisfiable 1000\nlinks 4001\n",
+        ),
+    ] {
+        assert!(rt; is_tried(rt.alloc(), words, expected)?, "{words}");
+    }
+    Ok(())
+}
+
+/// Whether the words give nothing but the line of a maximum of contexts, with a count of `least` or more.
+fn stops_at_contexts(alloc: Global, words: &str, least: u64) -> Result<bool, Fail> {
+    let ran = run_over_memory(alloc, words, SOME_OF_A_UNION)?;
+    let Status::Limit(LimitKind::Contexts, count) = ran.status else {
+        return Ok(false);
+    };
+    let line = format!(in alloc; "condor: limit on contexts reached at {count}\n")?;
+    Ok(
+        least <= count
+            && ran.status.code() == 3
+            && ran.out.bytes().is_empty()
+            && ran.notes.bytes() == line.as_bytes(),
+    )
+}
+
+#[test]
+fn an_option_sets_the_maximum_that_stops_a_run(rt: HostRuntime) -> Result<(), Fail> {
+    for (words, least) in [
+        ("classify --max-contexts 4", 4),
+        ("classify --max-contexts 4 --workers 1", 4),
+        ("trial 3 --max-contexts 16", 16),
+    ] {
+        assert!(rt; stops_at_contexts(rt.alloc(), words, least)?, "{words}");
     }
     Ok(())
 }

@@ -1,5 +1,4 @@
-use Rattle.std.proofs.Common.{◌≡◌, ◌+◌, length, arith}
-use Rattle.std.proofs.lemmas.List.{length_push}
+use Rattle.std.proofs.Common.{arith}
 use Rattle.cd_top.proofs.Runs.{answers_more}
 use Rattle.cd_top.proofs.answers.all_answers.Goals as goal
 

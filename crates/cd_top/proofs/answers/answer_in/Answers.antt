@@ -1,5 +1,4 @@
-use Rattle.std.proofs.Common.{◌≡◌, ◌<◌, length, sym, subst}
-use Rattle.cd_actor.specs.Cells.{At}
+use Rattle.std.proofs.Common.{◌<◌, length, sym, subst}
 use Rattle.cd_actor.proofs.At.{at_below, at_index}
 use Rattle.cd_top.proofs.Runs.{context_here, answer_here}
 use Rattle.cd_top.proofs.answers.answer_in.Goals as goal

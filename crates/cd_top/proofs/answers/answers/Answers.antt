@@ -1,4 +1,4 @@
-use Rattle.std.proofs.Common.{◌≡◌, ◌<◌, true, length, sym, subst, ap, ◌∙◌, []}
+use Rattle.std.proofs.Common.{◌≡◌, ◌<◌, true, length, sym, subst, ap, ◌∙◌}
 use Rattle.cd_actor.specs.Cells.{At}
 use Rattle.cd_base.specs.Keys.{is_named}
 use Rattle.cd_top.specs.Saturation.{IsBegun, IsAnswerIn}

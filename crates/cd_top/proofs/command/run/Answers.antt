@@ -1,41 +1,142 @@
-use Rattle.std.proofs.Common.{◌≡◌, ◌⊎◌, ℕ, subst}
+use Rattle.std.proofs.Common.{◌≡◌, ◌⊎◌, ℕ, ap, subst, sym, ◌∙◌, inr, map, string_bytes, Err}
 use Rattle.std.specs.Prelude.{IfSome}
-use Rattle.std.proofs.lemmas.Option.{IfSome_then}
 use Rattle.cd_base.specs.declared.limit_kind.LimitKind.{LimitKind}
 use Rattle.cd_grammar.specs.declared.refusal.Refusal.{Refusal}
 use Rattle.cd_grammar.specs.Reading.{IsRefused}
 use Rattle.cd_io.specs.Causes.{Rose}
+use Rattle.cd_words.specs.Form.{Asks, IsOfForm}
 use Rattle.cd_top.specs.declared.status.Status.{Status}
-use Rattle.cd_top.specs.declared.status.Status.TheVariants.{Done, Memory}
-use Rattle.cd_top.specs.Headline.{IsAccepted, IsAnswerable, IsLimited}
+use Rattle.cd_top.specs.Headline.{IsAccepted, IsAnswerable, IsLimited, IsPartlyAnswered}
 use Rattle.cd_top.specs.Status.{IsEarly}
+use Rattle.cd_top.specs.Trial.{IsTried, IsPartlyTried, IsTrialLimited, IsTrialAnswerable}
+use Rattle.cd_top.proofs.Asked.{not_trial, not_classify, classify_too, trial_too, memory_ends, no_limit, if_some}
+use Rattle.cd_top.proofs.LeastTrial.{levels_least}
 use Rattle.cd_top.proofs.command.run.Goals as goal
 
-pub returns-then-asks_classify-clause-refused : goal.returns-then-asks_classify-clause-refused
-returns-then-asks_classify-clause-refused g c =
+pub trial_here-requires-clause-least : goal.trial_here-requires-clause-least
+trial_here-requires-clause-least g c =
+    levels_least (map string_bytes c.args.words.now) c.in-Trial.levels c.in-Ok.asked.limits
+    (subst (λ command. Asks (map string_bytes c.args.words.now) command c.in-Ok.asked.limits) c.in-Trial.is c.in-Ok.ensures.asked)
+
+pub returns-in-Classify-clause-refused : goal.returns-in-Classify-clause-refused
+returns-in-Classify-clause-refused g c =
     subst (λ (most : ℕ). IfSome (g.S.Source.left c.args.source.now) (λ input. (refusal : Refusal) → c.classify_here.result ≡ Status.Refused refusal → IsRefused input most refusal))
-    c.standard.ensures.max_bytes c.classify_here.ensures.refused
+    c.in-Ok.ensures.asked.max_bytes c.classify_here.ensures.refused
 
--- what is said of these limits is said of the standard ones
-standard_too : (P : ℕ → ℕ → ℕ → Type 0) (bytes contexts facts a b c : ℕ) → bytes ≡ a → contexts ≡ b → facts ≡ c → P bytes contexts facts → P a b c
-standard_too P bytes contexts facts a b c e f h p = subst (λ z. P a b z) h (subst (λ z. P a z facts) f (subst (λ z. P z contexts facts) e p))
+pub returns-in-Classify-clause-limit : goal.returns-in-Classify-clause-limit
+returns-in-Classify-clause-limit g c limits asks =
+    classify_too (map string_bytes c.args.words.now) c.in-Ok.asked.command c.in-Ok.asked.limits c.in-Ok.ensures.only
+    (λ most contexts facts. IfSome (g.S.Source.left c.args.source.now) (λ input. (kind : LimitKind) (number : ℕ) → c.classify_here.result ≡ Status.Limit kind number → IsLimited input most contexts facts kind number))
+    limits asks c.classify_here.ensures.limit
 
-pub returns-then-asks_classify-clause-limit : goal.returns-then-asks_classify-clause-limit
-returns-then-asks_classify-clause-limit g c =
-    standard_too (λ most contexts facts. IfSome (g.S.Source.left c.args.source.now) (λ input. (kind : LimitKind) (number : ℕ) → c.classify_here.result ≡ Status.Limit kind number → IsLimited input most contexts facts kind number))
-    _ _ _ 268435456 1000000 10000000 c.standard.ensures.max_bytes c.standard.ensures.max_contexts c.standard.ensures.max_facts c.classify_here.ensures.limit
+pub returns-in-Classify-clause-unaccepted : goal.returns-in-Classify-clause-unaccepted
+returns-in-Classify-clause-unaccepted g c limits asks =
+    classify_too (map string_bytes c.args.words.now) c.in-Ok.asked.command c.in-Ok.asked.limits c.in-Ok.ensures.only
+    (λ most contexts facts. IfSome (g.S.Source.left c.args.source.now) (λ input. (IsAccepted input most → ⊥) → IsEarly c.classify_here.result))
+    limits asks c.classify_here.ensures.unaccepted
 
-pub returns-then-asks_classify-clause-unaccepted : goal.returns-then-asks_classify-clause-unaccepted
-returns-then-asks_classify-clause-unaccepted g c =
-    subst (λ (most : ℕ). IfSome (g.S.Source.left c.args.source.now) (λ input. (IsAccepted input most → ⊥) → IsEarly c.classify_here.result))
-    c.standard.ensures.max_bytes c.classify_here.ensures.unaccepted
+pub returns-in-Classify-clause-complete : goal.returns-in-Classify-clause-complete
+returns-in-Classify-clause-complete g c limits asks =
+    classify_too (map string_bytes c.args.words.now) c.in-Ok.asked.command c.in-Ok.asked.limits c.in-Ok.ensures.only
+    (λ most contexts facts. IfSome (g.S.Source.left c.args.source.now) (λ input. IsAnswerable input most contexts facts → (Rose (g.S.Source.faults c.args.source.now) (g.S.Source.faults c.classify_here.new.source) → ⊥) → (Rose (g.K.Sink.faults c.args.out.now) (g.K.Sink.faults c.classify_here.new.out) → ⊥)
+    → (c.classify_here.result ≡ Status.Done) ⊎ (c.classify_here.result ≡ Status.Memory)))
+    limits asks c.classify_here.ensures.complete
 
-pub returns-then-asks_classify-clause-complete : goal.returns-then-asks_classify-clause-complete
-returns-then-asks_classify-clause-complete g c =
-    IfSome_then (g.S.Source.left c.args.source.now)
-    (standard_too (λ most contexts facts. IfSome (g.S.Source.left c.args.source.now) (λ input. IsAnswerable input most contexts facts
-    → (Rose (g.S.Source.faults c.args.source.now) (g.S.Source.faults c.classify_here.new.source) → ⊥)
-    → (Rose (g.K.Sink.faults c.args.out.now) (g.K.Sink.faults c.classify_here.new.out) → ⊥)
-    → (c.classify_here.result ≡ Done) ⊎ (c.classify_here.result ≡ Memory)))
-    _ _ _ 268435456 1000000 10000000 c.standard.ensures.max_bytes c.standard.ensures.max_contexts c.standard.ensures.max_facts c.classify_here.ensures.complete)
-    (λ input complete asked. complete)
+pub returns-in-Classify-clause-partly : goal.returns-in-Classify-clause-partly
+returns-in-Classify-clause-partly g c limits asks =
+    classify_too (map string_bytes c.args.words.now) c.in-Ok.asked.command c.in-Ok.asked.limits c.in-Ok.ensures.only
+    (λ most contexts facts. IfSome (g.S.Source.left c.args.source.now) (λ input. c.classify_here.result ≡ Status.WriteFault → IsPartlyAnswered input most (g.K.Sink.written c.args.out.now) (g.K.Sink.written c.classify_here.new.out)))
+    limits asks c.classify_here.ensures.partly
+
+pub returns-in-Classify-clause-tried : goal.returns-in-Classify-clause-tried
+returns-in-Classify-clause-tried g c n limits asks =
+    absurd (not_trial (map string_bytes c.args.words.now) c.in-Ok.asked.command c.in-Ok.asked.limits c.in-Ok.ensures.only c.in-Classify.is n limits asks)
+
+pub returns-in-Classify-clause-trial_limit : goal.returns-in-Classify-clause-trial_limit
+returns-in-Classify-clause-trial_limit g c n limits asks =
+    absurd (not_trial (map string_bytes c.args.words.now) c.in-Ok.asked.command c.in-Ok.asked.limits c.in-Ok.ensures.only c.in-Classify.is n limits asks)
+
+pub returns-in-Classify-clause-trial_complete : goal.returns-in-Classify-clause-trial_complete
+returns-in-Classify-clause-trial_complete g c n limits asks =
+    absurd (not_trial (map string_bytes c.args.words.now) c.in-Ok.asked.command c.in-Ok.asked.limits c.in-Ok.ensures.only c.in-Classify.is n limits asks)
+
+pub returns-in-Classify-clause-trial_partly : goal.returns-in-Classify-clause-trial_partly
+returns-in-Classify-clause-trial_partly g c n limits asks =
+    absurd (not_trial (map string_bytes c.args.words.now) c.in-Ok.asked.command c.in-Ok.asked.limits c.in-Ok.ensures.only c.in-Classify.is n limits asks)
+
+pub returns-in-Classify-clause-trial_unread : goal.returns-in-Classify-clause-trial_unread
+returns-in-Classify-clause-trial_unread g c n limits asks =
+    absurd (not_trial (map string_bytes c.args.words.now) c.in-Ok.asked.command c.in-Ok.asked.limits c.in-Ok.ensures.only c.in-Classify.is n limits asks)
+
+pub returns-in-Classify-clause-trial_unrefused : goal.returns-in-Classify-clause-trial_unrefused
+returns-in-Classify-clause-trial_unrefused g c n limits asks =
+    absurd (not_trial (map string_bytes c.args.words.now) c.in-Ok.asked.command c.in-Ok.asked.limits c.in-Ok.ensures.only c.in-Classify.is n limits asks)
+
+pub returns-in-Classify-clause-trial_read_fault : goal.returns-in-Classify-clause-trial_read_fault
+returns-in-Classify-clause-trial_read_fault g c n limits asks =
+    absurd (not_trial (map string_bytes c.args.words.now) c.in-Ok.asked.command c.in-Ok.asked.limits c.in-Ok.ensures.only c.in-Classify.is n limits asks)
+
+pub returns-in-Trial-clause-done : goal.returns-in-Trial-clause-done
+returns-in-Trial-clause-done g c limits asks =
+    absurd (not_classify (map string_bytes c.args.words.now) c.in-Ok.asked.command c.in-Ok.asked.limits c.in-Ok.ensures.only c.in-Trial.levels c.in-Trial.is limits asks)
+
+pub returns-in-Trial-clause-ended : goal.returns-in-Trial-clause-ended
+returns-in-Trial-clause-ended g c limits asks =
+    absurd (not_classify (map string_bytes c.args.words.now) c.in-Ok.asked.command c.in-Ok.asked.limits c.in-Ok.ensures.only c.in-Trial.levels c.in-Trial.is limits asks)
+
+pub returns-in-Trial-clause-limit : goal.returns-in-Trial-clause-limit
+returns-in-Trial-clause-limit g c limits asks =
+    absurd (not_classify (map string_bytes c.args.words.now) c.in-Ok.asked.command c.in-Ok.asked.limits c.in-Ok.ensures.only c.in-Trial.levels c.in-Trial.is limits asks)
+
+pub returns-in-Trial-clause-unaccepted : goal.returns-in-Trial-clause-unaccepted
+returns-in-Trial-clause-unaccepted g c limits asks =
+    absurd (not_classify (map string_bytes c.args.words.now) c.in-Ok.asked.command c.in-Ok.asked.limits c.in-Ok.ensures.only c.in-Trial.levels c.in-Trial.is limits asks)
+
+pub returns-in-Trial-clause-complete : goal.returns-in-Trial-clause-complete
+returns-in-Trial-clause-complete g c limits asks =
+    absurd (not_classify (map string_bytes c.args.words.now) c.in-Ok.asked.command c.in-Ok.asked.limits c.in-Ok.ensures.only c.in-Trial.levels c.in-Trial.is limits asks)
+
+pub returns-in-Trial-clause-partly : goal.returns-in-Trial-clause-partly
+returns-in-Trial-clause-partly g c limits asks =
+    absurd (not_classify (map string_bytes c.args.words.now) c.in-Ok.asked.command c.in-Ok.asked.limits c.in-Ok.ensures.only c.in-Trial.levels c.in-Trial.is limits asks)
+
+pub returns-in-Trial-clause-refused : goal.returns-in-Trial-clause-refused
+returns-in-Trial-clause-refused g c =
+    if_some (g.S.Source.left c.args.source.now) (λ input. (refusal : Refusal) → c.trial_here.result ≡ Status.Refused refusal → IsRefused input 268435456 refusal)
+    (λ input refusal is. absurd (c.trial_here.ensures.refused refusal is))
+
+pub returns-in-Trial-clause-tried : goal.returns-in-Trial-clause-tried
+returns-in-Trial-clause-tried g c n limits asks =
+    trial_too (map string_bytes c.args.words.now) c.in-Ok.asked.command c.in-Ok.asked.limits c.in-Ok.ensures.only c.in-Trial.levels c.in-Trial.is
+    (λ levels contexts facts. c.trial_here.result ≡ Status.Done → IsTried levels (g.K.Sink.written c.args.out.now) (g.K.Sink.written c.trial_here.new.out))
+    n limits asks c.trial_here.ensures.done
+
+pub returns-in-Trial-clause-trial_limit : goal.returns-in-Trial-clause-trial_limit
+returns-in-Trial-clause-trial_limit g c n limits asks =
+    trial_too (map string_bytes c.args.words.now) c.in-Ok.asked.command c.in-Ok.asked.limits c.in-Ok.ensures.only c.in-Trial.levels c.in-Trial.is
+    (λ levels contexts facts. (kind : LimitKind) (number : ℕ) → c.trial_here.result ≡ Status.Limit kind number → IsTrialLimited levels contexts facts kind number)
+    n limits asks c.trial_here.ensures.limit
+
+pub returns-in-Trial-clause-trial_complete : goal.returns-in-Trial-clause-trial_complete
+returns-in-Trial-clause-trial_complete g c n limits asks =
+    trial_too (map string_bytes c.args.words.now) c.in-Ok.asked.command c.in-Ok.asked.limits c.in-Ok.ensures.only c.in-Trial.levels c.in-Trial.is
+    (λ levels contexts facts. IsTrialAnswerable levels contexts facts → (Rose (g.K.Sink.faults c.args.out.now) (g.K.Sink.faults c.trial_here.new.out) → ⊥) → (c.trial_here.result ≡ Status.Done) ⊎ (c.trial_here.result ≡ Status.Memory))
+    n limits asks c.trial_here.ensures.complete
+
+pub returns-in-Trial-clause-trial_partly : goal.returns-in-Trial-clause-trial_partly
+returns-in-Trial-clause-trial_partly g c n limits asks =
+    trial_too (map string_bytes c.args.words.now) c.in-Ok.asked.command c.in-Ok.asked.limits c.in-Ok.ensures.only c.in-Trial.levels c.in-Trial.is
+    (λ levels contexts facts. c.trial_here.result ≡ Status.WriteFault → IsPartlyTried levels (g.K.Sink.written c.args.out.now) (g.K.Sink.written c.trial_here.new.out))
+    n limits asks c.trial_here.ensures.partly
+
+pub returns-in-Err-clause-complete : goal.returns-in-Err-clause-complete
+returns-in-Err-clause-complete g c limits asks =
+    if_some (g.S.Source.left c.args.source.now) _ (λ input answerable no_read no_write. inr (c.status_of-status.ensures ∙ memory_ends c.in-Err.fault (IsOfForm (map string_bytes c.args.words.now)) (λ e. c.in-Err.ensures.usage.0 (ap (λ f. Err f) e)) (_, limits, asks)))
+
+pub returns-in-Err-clause-trial_limit : goal.returns-in-Err-clause-trial_limit
+returns-in-Err-clause-trial_limit g c n limits asks kind number e =
+    absurd (no_limit c.in-Err.fault kind number (sym c.status_of-status.ensures ∙ e))
+
+pub returns-in-Err-clause-trial_complete : goal.returns-in-Err-clause-trial_complete
+returns-in-Err-clause-trial_complete g c n limits asks answerable no_write =
+    inr (c.status_of-status.ensures ∙ memory_ends c.in-Err.fault (IsOfForm (map string_bytes c.args.words.now)) (λ e. c.in-Err.ensures.usage.0 (ap (λ f. Err f) e)) (_, limits, asks))

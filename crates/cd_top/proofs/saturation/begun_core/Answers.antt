@@ -1,4 +1,3 @@
-use Rattle.std.proofs.Common.{[]}
 use Rattle.cd_top.proofs.Runs.{new_cells, start_lawful, core_begun}
 use Rattle.cd_top.proofs.saturation.begun_core.Goals as goal
 

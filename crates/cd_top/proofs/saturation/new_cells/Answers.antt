@@ -1,4 +1,4 @@
-use Rattle.std.proofs.Common.{◌≡◌, ◌+◌, length, arith}
+use Rattle.std.proofs.Common.{arith}
 use Rattle.cd_top.proofs.Runs.{cells_more}
 use Rattle.cd_top.proofs.saturation.new_cells.Goals as goal
 

@@ -1,4 +1,4 @@
-use Rattle.std.proofs.Common.{[], subst}
+use Rattle.std.proofs.Common.{subst}
 use Rattle.cd_top.proofs.Runs.{closed_after, begun_after, stopped, HasStopped}
 use Rattle.cd_top.proofs.saturation.saturated.Goals as goal
 

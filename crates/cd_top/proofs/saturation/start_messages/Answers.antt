@@ -1,4 +1,4 @@
-use Rattle.std.proofs.Common.{◌≡◌, ◌++◌, ◌∷◌, [], ap, ◌∙◌}
+use Rattle.std.proofs.Common.{◌++◌, ◌∷◌, [], ap, ◌∙◌}
 use Rattle.cd_top.proofs.Runs.{starts_more}
 use Rattle.cd_top.proofs.saturation.start_messages.Goals as goal
 

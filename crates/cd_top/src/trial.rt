@@ -1,0 +1,117 @@
+//! The trial command: the summary of a generated document.
+ghost use Rattle.std.specs.Prelude.{◌≡◌, ◌≤◌, ◌⊎◌, true, ℕ, Err, IfOk};
+ghost use Rattle.cd_base.specs.declared.limit_kind.LimitKind.{LimitKind};
+ghost use Rattle.cd_grammar.specs.declared.refusal.Refusal.{Refusal};
+ghost use Rattle.cd_io.specs.Causes.{Rose};
+ghost use Rattle.cd_taxonomy.specs.Relation.{relation};
+ghost use Rattle.cd_taxonomy.specs.Summary.{summary_of, summary_text};
+ghost use Rattle.cd_top.specs.Answers.{AreAnswers};
+ghost use Rattle.cd_top.specs.Status.{line_of, IsEarly, IsNoted};
+ghost use Rattle.cd_top.specs.Trial.{IsTrialText, IsTried, IsPartlyTried, IsTrialLimited, IsTrialAnswerable};
+
+use crate::answers::{Halt, answers};
+use crate::classify::publish;
+use crate::notes::note;
+use crate::status::Status;
+use cd_base::{Answer, Limits, Memory};
+use cd_gen::make;
+use cd_io::Sink;
+use cd_meaning::Document;
+use cd_taxonomy::{summary, summary_text, taxonomy};
+use std::alloc::Global;
+
+/// The trial command on one thread: it answers the generated document of so many levels as `classify_here` answers what it reads, and
+/// writes how much there is in its taxonomy. It waits for nobody and always returns.
+///
+/// The same four lines at each run that is done. Costs what the answer costs, as at `classify_here`, for a document of `21n + 1` nodes.
+pub(crate) fn trial_here<K: Sink, E: Sink>(
+    alloc: Global,
+    levels: u32,
+    out: &mut K,
+    notes: &mut E,
+    limits: &Limits,
+) -> Status
+    requires least { 1 ≤ levels }
+    requires most { levels ≤ 20000 }
+    // Exactly one text was written: the summary of what the generated document entails.
+    ensures done { result ≡ Status.Done → IsTried levels (K.written out.old) (K.written out.new) }
+    ensures finished { result ≡ Status.Done → K.finished out.new ≡ true }
+
+    // Each other status has its cause, or never comes.
+    ensures usage { result ≡ Status.Usage → ⊥ }
+    ensures refused { (refusal : Refusal) → result ≡ Status.Refused refusal → ⊥ }
+    ensures read_fault { result ≡ Status.ReadFault → ⊥ }
+    ensures write_fault { result ≡ Status.WriteFault → Rose (K.faults out.old) (K.faults out.new) }
+    ensures limit { (kind : LimitKind) (number : ℕ) → result ≡ Status.Limit kind number
+        → IsTrialLimited levels limits.now.max_contexts limits.now.max_facts kind number }
+
+    // Where no maximum can be reached it is done, unless a fault rose or memory ran out.
+    ensures complete { IsTrialAnswerable levels limits.now.max_contexts limits.now.max_facts
+        → (Rose (K.faults out.old) (K.faults out.new) → ⊥) → (result ≡ Status.Done) ⊎ (result ≡ Status.Memory) }
+
+    // What stands after it.
+    ensures unwritten { IsEarly result → out.new ≡ out.old }
+    ensures partly { result ≡ Status.WriteFault → IsPartlyTried levels (K.written out.old) (K.written out.new) }
+    ensures noted { IsNoted (E.written notes.old) (E.written notes.new) (E.faults notes.old) (E.faults notes.new) (line_of result) }
+    ensures quiet { result ≡ Status.Done → notes.new ≡ notes.old }
+{
+    let status = trial(alloc, levels, out, limits);
+    note(notes, status);
+    status
+}
+
+/// Writes the summary of the generated document. Nothing is written before it is all there. Costs what `trial_here` does.
+fn trial<K: Sink>(alloc: Global, levels: u32, out: &mut K, limits: &Limits) -> Status
+    requires least { 1 ≤ levels }
+    requires most { levels ≤ 20000 }
+    ensures done { result ≡ Status.Done → IsTried levels (K.written out.old) (K.written out.new) }
+    ensures finished { result ≡ Status.Done → K.finished out.new ≡ true }
+    ensures usage { result ≡ Status.Usage → ⊥ }
+    ensures refused { (refusal : Refusal) → result ≡ Status.Refused refusal → ⊥ }
+    ensures read_fault { result ≡ Status.ReadFault → ⊥ }
+    ensures write_fault { result ≡ Status.WriteFault → Rose (K.faults out.old) (K.faults out.new) }
+    ensures limit { (kind : LimitKind) (number : ℕ) → result ≡ Status.Limit kind number
+        → IsTrialLimited levels limits.now.max_contexts limits.now.max_facts kind number }
+    ensures unwritten { IsEarly result → out.new ≡ out.old }
+    ensures partly { result ≡ Status.WriteFault → IsPartlyTried levels (K.written out.old) (K.written out.new) }
+{
+    match trial_text(alloc, levels, limits) {
+        Ok(text) => match publish(out, &text) {
+            Ok(()) => Status::Done,
+            Err(_) => Status::WriteFault,
+        },
+        Err(Halt::Limit(kind, number)) => Status::Limit(kind, number),
+        Err(Halt::Memory) => Status::Memory,
+    }
+}
+
+/// The summary of what the generated document entails. Costs what `trial_here` does.
+fn trial_text(alloc: Global, levels: u32, limits: &Limits) -> Result<Vec<u8>, Halt>
+    requires least { 1 ≤ levels }
+    requires most { levels ≤ 20000 }
+    ensures text { IfOk result (λ text. IsTrialText levels text.items) }
+    ensures limit { (kind : LimitKind) (number : ℕ) → result ≡ Err (Halt.Limit kind number)
+        → IsTrialLimited levels limits.now.max_contexts limits.now.max_facts kind number }
+{
+    let Ok(document) = make(alloc, levels) else {
+        return Err(Halt::Memory);
+    };
+    let above = match answers(alloc, &document, limits) {
+        Ok(above) => above,
+        Err(halt) => return Err(halt),
+    };
+    match counted(alloc, &document, &above) {
+        Ok(text) => Ok(text),
+        Err(_) => Err(Halt::Memory),
+    }
+}
+
+/// The summary of the answers. What `taxonomy` takes.
+fn counted(alloc: Global, document: &Document, above: &[Answer]) -> Result<Vec<u8>, Memory>
+    requires answers { AreAnswers document.now above.now }
+    ensures { IfOk result (λ text. text.items ≡ summary_text (summary_of document.now.classes (relation above.now))) }
+{
+    let found = taxonomy(alloc, document, above)?;
+    let text = summary_text(alloc, &summary(&found))?;
+    Ok(text)
+}
