@@ -16,7 +16,7 @@ get_same [] i d e h = absurd (omega arith)
 get_same (x ∷ xs) zero d e h = refl
 get_same (x ∷ xs) (suc i) d e h = get_same xs i d e (omega arith)
 
-ascends_at : (ns : List ℕ) (i k : ℕ) → IsAscending ns → i ≤ k → k < length ns → get_or ns i 0 ≤ get_or ns k 0
+pub ascends_at : (ns : List ℕ) (i k : ℕ) → IsAscending ns → i ≤ k → k < length ns → get_or ns i 0 ≤ get_or ns k 0
 ascends_at [] i k a l h = absurd (omega arith)
 ascends_at (n ∷ ns) zero zero a l h = omega arith
 ascends_at (n ∷ ns) zero (suc k) a l h = let b : n < get_or ns k 0 = a.0 _ (member_get ns k 0 (omega arith)) in omega arith

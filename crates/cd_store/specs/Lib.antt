@@ -1,2 +1,4 @@
+pub mod Filing
 pub mod Sift
 pub mod Store
+pub mod Subsets

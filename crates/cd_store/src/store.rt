@@ -1,11 +1,14 @@
 //! The store of a context.
-ghost use Rattle.std.specs.Prelude.{◌≡◌, ◌<◌, ℕ, [], length, IfOk, OnErr, MatchOption, reverse};
-ghost use Rattle.cd_base.specs.Lists.{Member};
-ghost use Rattle.cd_clause.specs.Derivations.{Redundant};
+ghost use Rattle.std.specs.Prelude.{◌≡◌, ◌<◌, ◌↔◌, ◌∷◌, ◌++◌, ℕ, List, [], length, true, IfOk, OnOk, OnErr, reverse, slice_index_or};
+ghost use Rattle.std.specs.Bool.{OnFalse};
+ghost use Rattle.cd_base.specs.Lists.{Member, Within};
+ghost use Rattle.cd_clause.specs.declared.elem.Elem.{Elem};
+ghost use Rattle.cd_store.specs.Filing.{AreFiled, IsFiled};
 ghost use Rattle.cd_store.specs.Sift.{Sifts};
-ghost use Rattle.cd_clause.specs.Numbers.{picked};
-ghost use Rattle.cd_store.specs.Store.{IsStore, IsHeld, IsOutcome, IsAscending, ContainsNoEarlier};
+ghost use Rattle.cd_store.specs.Store.{IsStore, IsOutcome, ContainsNoEarlier};
 
+use crate::filing::Filing;
+use crate::subsets::{find_subset, is_among};
 use cd_base::Memory;
 use cd_clause::Clause;
 use std::alloc::Global;
@@ -25,18 +28,20 @@ pub enum Added {
 pub struct Store {
     clauses: Vec<Clause>,
     live: Vec<usize>,
+    filing: Filing,
 }
 
 impl Model for Store {
     ghost use Rattle.std.specs.Prelude.{ℕ, List};
     ghost use Rattle.cd_clause.specs.declared.elem.Elem.{Elem};
+    ghost use Rattle.cd_store.specs.Filing.{AreFiled};
     ghost use Rattle.cd_store.specs.Store.{IsStore};
 
     ghost Value = { List (List Elem) × List ℕ };
 
     ghost view = { λ s. (s.clauses.items, s.live.items) };
 
-    ghost invariant = { λ s. IsStore s.clauses.items s.live.items };
+    ghost invariant = { λ s. IsStore s.clauses.items s.live.items × AreFiled s.filing s.clauses.items };
 }
 
 impl Store {
@@ -47,6 +52,7 @@ impl Store {
         Store {
             clauses: Vec::new(alloc),
             live: Vec::new(alloc),
+            filing: Filing::new(alloc),
         }
     }
 
@@ -68,37 +74,92 @@ impl Store {
     }
 
     /// Stores the clause under the next number and makes it live, and makes its live supersets dead; or changes nothing, where a live
-    /// clause is a subset of it. One walk over the clause and each live one.
+    /// clause is a subset of it. A look-up for each element of the clause; for each stored clause that may share an element with it,
+    /// logarithmic in the live ones, and a walk over both where that one is live; and where a superset dies, a walk over the clause and
+    /// each live one.
     pub fn add(&mut self, alloc: Global, clause: Clause) -> Result<Added, Memory>
         ensures ok { IfOk result (λ a. IsOutcome self.old clause self.new a) }
         ensures err { OnErr result (self.new ≡ self.old) }
     {
-        if let Some(i) = find_subset(&self.clauses, &self.live, &clause) {
+        if let Some(i) = find_subset(&self.filing, &self.clauses, &self.live, &clause) {
             return Ok(Added::Held(i));
         }
         let number = self.clauses.len();
-        let mut live = sift(alloc, &self.clauses, &self.live, &clause)?;
-        live.push(number)?;
-        self.clauses.push(clause)?;
-        self.live = live;
+        self.clauses.reserve(1)?;
+        self.filing.file(alloc, number, &clause)?;
+        replace(
+            alloc,
+            &self.filing,
+            &self.clauses,
+            &mut self.live,
+            &clause,
+            number,
+        )?;
+        self.clauses.push_reserved(clause);
         Ok(Added::New(number))
     }
 }
 
-/// The least of the numbers whose clause is a subset. One walk over the clause and each live one.
-fn find_subset(clauses: &[Clause], live: &[usize], clause: &Clause) -> Option<usize>
-    requires range { (n : ℕ) → Member n live.now → n < length clauses.now }
-    requires ascends { IsAscending live.now }
-    ensures { MatchOption result (Redundant (picked clauses.now live.now) clause.now → ⊥) (λ i. IsHeld clauses.now live.now clause.now i) }
+/// Makes the live supersets of the clause dead, and this number live. Costs what `candidates` and `has_superset` do, and what `sift` does
+/// only where a superset is live. After `Memory` nothing has changed.
+fn replace(
+    alloc: Global,
+    filing: &Filing,
+    clauses: &[Clause],
+    live: &mut Vec<usize>,
+    clause: &Clause,
+    number: usize,
+) -> Result<(), Memory>
+    requires store { IsStore clauses.now live.old.items }
+    requires filed { AreFiled filing.now clauses.now }
+    ensures ok { OnOk result ((after : List ℕ) × Sifts clauses.now clause.now live.old.items after × (live.new.items ≡ after ++ number ∷ [])) }
+    ensures err { OnErr result (live.new.items ≡ live.old.items) }
 {
-    'numbers: for n in live {
-        let at = *n;
-        let held = &clauses[at];
-        if held.within(clause) {
-            return Some(at);
-        }
+    let numbers = candidates(filing, live.as_slice(), clause);
+    if has_superset(clauses, live.as_slice(), clause, numbers) {
+        let mut after = sift(alloc, clauses, live.as_slice(), clause)?;
+        after.push(number)?;
+        *live = after;
+        return Ok(());
     }
-    None
+    live.push(number)?;
+    Ok(())
+}
+
+/// Numbers among which the live supersets are, lent: those under the first element, or all where there is none. One look-up.
+fn candidates<'a>(filing: &'a Filing, live: &'a [usize], clause: &Clause) -> &'a [usize]
+    ensures { (n : ℕ) (held : List Elem) → Member n live.now → IsFiled filing.now n held → Within clause.now held → Member n result.now }
+{
+    match clause.elems() {
+        [] => live,
+        [first, ..] => filing.under(first),
+    }
+}
+
+/// Whether one of these numbers is that of a live superset. For each logarithmic in the live numbers, and one walk over both clauses.
+fn has_superset(clauses: &[Clause], live: &[usize], clause: &Clause, numbers: &[usize]) -> bool
+    requires { IsStore clauses.now live.now }
+    ensures { OnFalse result ((n : ℕ) → Member n numbers.now → Member n live.now → Within clause.now (slice_index_or clauses.now n []) → ⊥) }
+{
+    let mut rest = numbers;
+    'numbers: while let [number, others @ ..] = rest {
+        if is_superset(clauses, live, clause, *number) {
+            return true;
+        }
+        rest = others;
+    }
+    false
+}
+
+/// Whether the number is live and its clause a superset. Logarithmic in the live numbers, and one walk over both clauses.
+fn is_superset(clauses: &[Clause], live: &[usize], clause: &Clause, number: usize) -> bool
+    requires { IsStore clauses.now live.now }
+    ensures { (result ≡ true) ↔ (Member number live.now × Within clause.now (slice_index_or clauses.now number [])) }
+{
+    if !is_among(live, number) {
+        return false;
+    }
+    clause.within(&clauses[number])
 }
 
 /// The numbers whose clause is no superset. One walk over the clause and each live one.

@@ -1,0 +1,28 @@
+-- Numbers of clauses, filed by what the clauses have.
+use Rattle.std.specs.Prelude.{ℕ, ◌<◌, ◌+◌, ◌*◌, ◌%◌, cond, nat_eq, List, [], ◌∷◌, length, slice_index_or}
+use Rattle.cd_base.specs.Lists.{Member}
+use Rattle.cd_base.specs.Keys.{folded}
+use Rattle.cd_clause.specs.declared.elem.Elem.{Elem}
+use Rattle.cd_clause.specs.declared.elem.Elem.TheVariants.{Plain, Exist}
+
+-- the number under which an element is filed, which existentials may share: that of an atom, or one above those, of the role and the key
+abbrev pub filed_under : Elem → ℕ
+filed_under (Plain a) = a
+filed_under (Exist r k) = 4294967296 + r * 31 + folded 0 k % 4294967295
+
+-- the first list of the number, and none where it has no list
+abbrev pub listed : List (ℕ × List ℕ) → ℕ → List ℕ
+listed [] q = []
+listed (p ∷ ps) q = cond (nat_eq q p.0) p.1 (listed ps q)
+
+-- the clause's number is filed under each of its elements
+abbrev pub IsFiled : List (ℕ × List ℕ) → ℕ → List Elem → Type 0
+IsFiled f n c = (e : Elem) → Member e c → Member n (listed f (filed_under e))
+
+-- each stored clause is filed
+abbrev pub AreFiled : List (ℕ × List ℕ) → List (List Elem) → Type 0
+AreFiled f clauses = (n : ℕ) → n < length clauses → IsFiled f n (slice_index_or clauses n [])
+
+-- nothing that was filed is lost
+abbrev pub KeepsFiled : List (ℕ × List ℕ) → List (ℕ × List ℕ) → Type 0
+KeepsFiled old new = (q n : ℕ) → Member n (listed old q) → Member n (listed new q)
