@@ -2,6 +2,7 @@ pub mod Answered
 pub mod Asked
 pub mod Closures
 pub mod Complete
+pub mod CoreRuns
 pub mod Documents
 pub mod Fronts
 pub mod LeastTrial

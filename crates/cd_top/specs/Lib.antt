@@ -1,4 +1,5 @@
 pub mod Answers
+pub mod CoreRuns
 pub mod Headline
 pub mod Limit
 pub mod Saturation

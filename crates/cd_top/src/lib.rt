@@ -33,6 +33,8 @@ pub use command::{classify_here, run};
 pub use status::Status;
 
 #[cfg(test)]
+mod core_tests;
+#[cfg(test)]
 mod small_ontologies;
 #[cfg(test)]
 mod tests;
