@@ -129,9 +129,12 @@ impl Contexts {
         ensures ok { IfOk result (λ notes. Tells index.now.normal self.old key.now fact self.new notes.items) }
         ensures err { OnErr result (self.new ≡ self.old) }
     {
-        let (context, notes) = begin_with(alloc, index, key.copy()?, fact)?;
+        // both copies come first, so that nothing but them is lost where there is no memory for one
+        let kept = key.copy()?;
+        let own = key.copy()?;
+        let (context, notes) = begin_with(alloc, index, own, fact)?;
         let facts = context.facts();
-        self.by_key.insert(key.copy()?, context)?;
+        self.by_key.insert(kept, context)?;
         self.facts = self.facts.saturating_add(facts);
         Ok(notes)
     }

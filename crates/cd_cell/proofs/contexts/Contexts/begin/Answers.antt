@@ -13,7 +13,7 @@ invariant_of-self-2 c =
     let new = c.insert.new.self.entries in
     let s = c.in_ok-context.context in
     let absent = subst (λ (es : List (List ℕ × State)). state_at es c.args.key.now ≡ None) (sym c.self.view_is) c.requires.absent in
-    let is = subst (λ (k : List ℕ). new ≡ put old k s) c.in_ok-copy-2.ensures c.in_ok-insert.ensures.entries in
+    let is = subst (λ (k : List ℕ). new ≡ put old k s) c.in_ok-kept.ensures c.in_ok-insert.ensures.entries in
     kept_new n old c.args.key.now new s absent is c.self.inside.facts c.saturating_add-self-inside.result c.self.invariant
     (c.saturating_add-self-inside.ensures ∙ ap (λ (m : ℕ). min (c.self.inside.facts + m) last) c.facts-facts.ensures)
 
@@ -24,7 +24,7 @@ returns-clause-ok c =
     let new = c.insert.new.self.entries in
     let s = c.in_ok-context.context in
     let absent = subst (λ (es : List (List ℕ × State)). state_at es c.args.key.now ≡ None) (sym c.self.view_is) c.requires.absent in
-    let is = subst (λ (k : List ℕ). new ≡ put old k s) c.in_ok-copy-2.ensures c.in_ok-insert.ensures.entries in
+    let is = subst (λ (k : List ℕ). new ≡ put old k s) c.in_ok-kept.ensures c.in_ok-insert.ensures.entries in
     subst (λ (es : List (List ℕ × State)). Tells n es c.args.key.now c.args.fact new c.in_ok-context.notes.items) c.self.view_is
     (tells_new n old c.args.key.now new s absent is c.args.fact c.in_ok-context.notes.items
-    (subst (λ (k : List ℕ). IsNext n None k s) c.in_ok-copy.ensures c.in_ok-context.ensures.next) c.in_ok-context.ensures.ok)
+    (subst (λ (k : List ℕ). IsNext n None k s) c.in_ok-own.ensures c.in_ok-context.ensures.next) c.in_ok-context.ensures.ok)
