@@ -1,33 +1,118 @@
 #!/usr/bin/env bash
-# How the time and the memory of `condor classify` grow: a flat taxonomy (n classes under one) and a chain of n classes, each for n
-# and 4n in one run. Prints the seconds (the best of three), the ratio of the two times and the peak memory. It judges nothing.
+# How the time and the memory of `condor classify` grow with documents of several forms, each for a small and a large size in one run.
+# Prints the seconds (the best of three), the ratio of the two times and the peak memory. It judges nothing.
 # Needs GNU time and awk.
 #
-#   bench/growth.sh [n of the flat taxonomy, 25000] [n of the chain, 1000]
+#   bench/growth.sh [form ..]
+#
+# The forms: generated, disjoint, operands, roles, flat, chain, universals, closing. Without words all of them.
 set -eu
 . "$(dirname "$0")/measure.sh"
-flat_n=${1:-25000}
-chain_n=${2:-1000}
 
+# The document of the trial for n: existentials, a role hierarchy, unions, and a class in n without a member.
+generated() {
+  awk -v n="$1" 'BEGIN {
+    print "Prefix(:=<urn:trial:>)\nOntology(\nSubObjectPropertyOf(:R :S)\nSubClassOf(ObjectSomeValuesFrom(:S :D) :E)"
+    for (i = 0; i < n; i++) {
+      printf "SubClassOf(:A%d ObjectUnionOf(:B%d :C%d))\nSubClassOf(:B%d :D)\nSubClassOf(:C%d :D)\n", i, i, i, i, i
+      printf "SubClassOf(:U%d :A%d)\nDisjointClasses(:U%d :D)\n", i, i, i
+      if (i > 0) printf "SubClassOf(:A%d ObjectSomeValuesFrom(:R :A%d))\n", i, i - 1
+    }
+    print ")"
+  }'
+}
+
+# n classes apart from D, and 2,000 classes below D.
+disjoint() {
+  awk -v n="$1" 'BEGIN {
+    print "Ontology("
+    for (i = 0; i < n; i++) printf "DisjointClasses(<x:U%d> <x:D>)\n", i
+    for (i = 0; i < 2000; i++) printf "SubClassOf(<x:C%d> <x:D>)\n", i
+    print ")"
+  }'
+}
+
+# One disjointness of n classes.
+operands() {
+  awk -v n="$1" 'BEGIN {
+    print "Ontology(\nDisjointClasses("
+    for (i = 0; i < n; i++) printf "<x:C%d>\n", i
+    print "))"
+  }'
+}
+
+# n roles without a pair, each in an existential.
+roles() {
+  awk -v n="$1" 'BEGIN {
+    print "Ontology("
+    for (i = 0; i < n; i++) printf "SubClassOf(<x:A> ObjectSomeValuesFrom(<x:r%d> <x:B>))\n", i
+    print ")"
+  }'
+}
+
+# n classes under one.
 flat() {
   awk -v n="$1" 'BEGIN { print "Ontology("; for (i = 0; i < n; i++) printf "SubClassOf(<x:C%d> <x:Top>)\n", i; print ")" }'
 }
 
+# A chain of n classes.
 chain() {
   awk -v n="$1" 'BEGIN { print "Ontology("; for (i = 1; i < n; i++) printf "SubClassOf(<x:C%d> <x:C%d>)\n", i - 1, i; print ")" }'
+}
+
+# A class with one existential and n universals over its role.
+universals() {
+  awk -v n="$1" 'BEGIN {
+    print "Ontology(\nSubClassOf(<x:A> ObjectSomeValuesFrom(<x:r> <x:B>))"
+    for (i = 0; i < n; i++) printf "SubClassOf(<x:A> ObjectAllValuesFrom(<x:r> <x:C%d>))\n", i
+    print ")"
+  }'
+}
+
+# n classes, each with four existentials over one role and a closing universal over the union of the four fillers, out of 40 fillers that
+# are apart; and three defined classes: with none of two fillers, only with others, with one of some.
+closing() {
+  awk -v n="$1" 'BEGIN {
+    print "Ontology(\nDisjointClasses("
+    for (i = 0; i < 40; i++) printf "<x:F%d> ", i
+    print ")"
+    for (i = 0; i < n; i++) {
+      union = ""
+      for (j = 0; j < 4; j++) {
+        f = (i * (j + 1) + j * 11) % 40
+        printf "SubClassOf(<x:C%d> ObjectSomeValuesFrom(<x:r> <x:F%d>))\n", i, f
+        union = union " <x:F" f ">"
+      }
+      printf "SubClassOf(<x:C%d> ObjectAllValuesFrom(<x:r> ObjectUnionOf(%s)))\n", i, union
+    }
+    print "EquivalentClasses(<x:None> ObjectComplementOf(ObjectSomeValuesFrom(<x:r> ObjectUnionOf(<x:F0> <x:F1>))))"
+    printf "EquivalentClasses(<x:Only> ObjectAllValuesFrom(<x:r> ObjectUnionOf("
+    for (i = 2; i < 40; i++) printf "<x:F%d> ", i
+    print ")))"
+    print "EquivalentClasses(<x:Some> ObjectSomeValuesFrom(<x:r> ObjectUnionOf(<x:F3> <x:F4> <x:F5>)))\n)"
+  }'
 }
 
 compare() {
   local small large
   "$1" "$2" >"$folder/small.ofn"
-  "$1" "$(($2 * 4))" >"$folder/large.ofn"
+  "$1" "$3" >"$folder/large.ofn"
   small=$(measure "$folder/small.ofn" "$program" classify)
   large=$(measure "$folder/large.ofn" "$program" classify)
-  echo "$1 $2 $small $large" | awk '{
-    printf "%-6s %7d classes %7.3f s %7.1f MB   %7d classes %7.3f s %7.1f MB   ratio %.1f\n",
-      $1, $2, $3, $4 / 1024, $2 * 4, $5, $6 / 1024, ($3 > 0 ? $5 / $3 : 0)
+  echo "$1 $2 $small $3 $large" | awk '{
+    printf "%-10s %6d %7.3f s %7.1f MB   %6d %7.3f s %7.1f MB   ratio %.1f\n", $1, $2, $3, $4 / 1024, $5, $6, $7 / 1024, ($3 > 0 ? $6 / $3 : 0)
   }'
 }
 
-compare flat "$flat_n"
-compare chain "$chain_n"
+for form in "${@:-all}"; do
+  case $form in
+    all) exec "$0" generated disjoint operands roles flat chain universals closing ;;
+    generated) compare generated 1250 5000; compare generated 5000 20000 ;;
+    disjoint | operands | roles) compare "$form" 10000 40000 ;;
+    flat) compare flat 25000 100000 ;;
+    chain) compare chain 1000 4000 ;;
+    universals) compare universals 6 8 ;;
+    closing) compare closing 100 400 ;;
+    *) echo "no form $form" >&2; exit 2 ;;
+  esac
+done
