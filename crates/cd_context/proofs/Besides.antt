@@ -8,6 +8,7 @@ use Rattle.cd_base.specs.declared.normal.Conj.{Conj}
 use Rattle.cd_base.specs.declared.normal.Normal.{Normal}
 use Rattle.cd_base.specs.declared.normal.Triple.{Triple}
 use Rattle.cd_base.proofs.Members.{not_true, any_by_member, any_member, member_at, member_cases, member_get, member_left, member_right}
+use Rattle.cd_clause.specs.Elements.{Eligible}
 use Rattle.cd_clause.specs.declared.elem.Elem.{Elem}
 use Rattle.cd_clause.specs.declared.elem.Elem.TheVariants.{Plain}
 use Rattle.cd_index.specs.Index.{IsFiling, has, is_filed, is_free, left_of}
@@ -17,7 +18,7 @@ use Rattle.cd_rules.specs.Steps.{IsWithoutOne}
 use Rattle.cd_rules.proofs.Found.{number_found}
 use Rattle.cd_context.specs.Filing.{Filed, atoms_of, under}
 use Rattle.cd_context.proofs.Listed.{listed_atom}
-use Rattle.cd_context.specs.Beside.{HasFiled, IsBesideLeft, IsBesideByOne, IsBesideByCon, IsBesideExist, IsBeside}
+use Rattle.cd_context.specs.Beside.{HasFiled, IsBesideLeft, IsBesideByOne, IsBesideByCon, IsBesideExist, IsBeside, IsBesideAt}
 
 -- ---- one left side
 
@@ -178,12 +179,12 @@ universal_of triples found a b h e =
 
 -- ---- elements
 
--- beside the element at place i
-abbrev pub OfElem : Normal → Filed → List Elem → ℕ → ℕ → Type 0
-OfElem n f c i m = IsBeside n f (get_or c i (Plain 0)) m
-
-pub by_elem : (n : Normal) (f : Filed) (c : List Elem) (m : ℕ) → ((e : Elem) × Member e c × IsBeside n f e m) → (i : ℕ) × (i < length c) × OfElem n f c i m
-by_elem n f c m q = let w = member_at q.0 c q.1 in (w.0, w.1, subst (λ e. IsBeside n f e m) (sym (w.2 (Plain 0))) q.2)
+-- what is beside an eligible element is beside that of some place
+pub by_elem : (n : Normal) (f : Filed) (c : List Elem) (m : ℕ) → ((e : Elem) × Eligible n e c × IsBeside n f e m) → (i : ℕ) × (i < length c) × IsBesideAt n f c i m
+by_elem n f c m q =
+    let w = member_at q.0 c q.1.isin in
+    let at : get_or c w.0 (Plain 0) ≡ q.0 = w.2 (Plain 0) in
+    (w.0, w.1, (subst (λ e. Eligible n e c) (sym at) q.1, subst (λ e. IsBeside n f e m) (sym at) q.2))
 
 -- ---- live numbers
 

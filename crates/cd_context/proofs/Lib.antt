@@ -3,7 +3,6 @@ pub mod Adds
 pub mod Appended
 pub mod Besides
 pub mod Filings
-pub mod Found
 pub mod Gaining
 pub mod Grown
 pub mod Justify

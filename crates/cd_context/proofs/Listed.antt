@@ -4,10 +4,15 @@ use Rattle.std.specs.Prelude.{nat_eq}
 use Rattle.std.specs.Map.{lookup}
 use Rattle.std.specs.Option.{option_map_or}
 use Rattle.std.proofs.lemmas.Bool.{cond-true}
+use Rattle.smallvec.specs.SmallVec.{SmallVec}
 use Rattle.cd_base.specs.Lists.{Member}
 use Rattle.cd_base.proofs.Members.{member_left}
 use Rattle.cd_clause.specs.declared.elem.Elem.TheVariants.{Plain, Exist}
 use Rattle.cd_context.specs.Filing.{Filed, KeepsFiled, listed, under}
+
+-- the numbers of a list as a map has it
+abbrev pub numbers_of : SmallVec ℕ → List ℕ
+numbers_of v = v.items
 
 -- what is listed under an atom is what a look-up finds
 pub listed_of : {V : Type 0} (items : V → List ℕ) (es : List (ℕ × V)) (a : ℕ) → listed (map (λ e. (e.0, items e.1)) es) a ≡ option_map_or items (lookup (nat_eq a) es) []

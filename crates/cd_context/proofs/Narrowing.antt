@@ -5,7 +5,7 @@ use Rattle.cd_base.specs.declared.normal.Normal.{Normal}
 use Rattle.cd_base.proofs.Members.{member_at}
 use Rattle.cd_clause.specs.declared.elem.Elem.{Elem}
 use Rattle.cd_clause.specs.declared.elem.Elem.TheVariants.{Plain, Exist}
-use Rattle.cd_clause.specs.Elements.{rest}
+use Rattle.cd_clause.specs.Elements.{Eligible, rest}
 use Rattle.cd_clause.specs.Rules.{Rests}
 use Rattle.cd_rules.specs.declared.facts.BackFact.{BackFact}
 use Rattle.cd_rules.specs.declared.facts.DeadFact.{DeadFact}
@@ -19,7 +19,7 @@ use Rattle.cd_context.specs.Beside.{HasFiled, IsBesideLeft, IsBeside, AreEnough}
 
 module _ (n : Normal) (f : Filed) (clauses : List (List Elem)) (premise : ℕ) (live found numbers : List ℕ)
     (own : IsFiled f premise (get_or clauses premise []))
-    (gained : (m : ℕ) → ((e : Elem) × Member e (get_or clauses premise []) × IsBeside n f e m) → Member m found)
+    (gained : (m : ℕ) → ((e : Elem) × Eligible n e (get_or clauses premise []) × IsBeside n f e m) → Member m found)
     (kept : (m : ℕ) → Member m found → Member m live → (m ≡ premise) ⊎ Member m numbers) where
   module _ (taken : List ℕ) (alive : Within taken live) (filed : AreFiled f clauses taken) where
     abbrev Wide : List Elem → Type 0
@@ -58,10 +58,10 @@ module _ (n : Normal) (f : Filed) (clauses : List (List Elem)) (premise : ℕ) (
     )
 
     module _ (backs : List BackFact) (deads : List DeadFact) (key : List ℕ) (d : List Elem) where
-      narrow : (e : Elem) → Member e (get_or clauses premise []) → (others : List Elem) → IsOfElem n key Wide backs deads e others d → IsOfElem n key Narrow backs deads e others d
-      narrow (Plain a) isin others (inl q) = inl q
-      narrow (Plain a) isin others (inr (inl q)) = inr (inl q)
-      narrow (Plain a) isin others (inr (inr (inl q))) =
+      narrow : (e : Elem) → Eligible n e (get_or clauses premise []) → (others : List Elem) → IsOfElem n key Wide backs deads e others d → IsOfElem n key Narrow backs deads e others d
+      narrow (Plain a) el others (inl q) = inl q
+      narrow (Plain a) el others (inr (inl q)) = inr (inl q)
+      narrow (Plain a) el others (inr (inr (inl q))) =
           let x = q.0 in
           let taken_out = q.2 in
           let at = member_at x n.n1 q.1 in
@@ -76,34 +76,34 @@ module _ (n : Normal) (f : Filed) (clauses : List (List Elem)) (premise : ℕ) (
               (
                 taken_out.2.0,
                 rests_narrow taken_out.0 taken_out.2.0
-                    (λ b i k u. gained k (Plain a, isin, inl (at.0, at.1, subst (λ l. IsBesideLeft f a l k) (sym is) (taken_out.0, taken_out.1, all, (b, i, u)))))
+                    (λ b i k u. gained k (Plain a, el, inl (at.0, at.1, subst (λ l. IsBesideLeft f a l k) (sym is) (taken_out.0, taken_out.1, all, (b, i, u)))))
                     taken_out.2.1,
                 taken_out.2.2,
               ),
             ),
           )))
-      narrow (Plain a) isin others (inr (inr (inr q))) =
+      narrow (Plain a) el others (inr (inr (inr q))) =
           let c = q.3.0 in
           let z = q.3.2 in
           inr (inr (inr (
             q.0,
             q.1,
             q.2,
-            (c, pick c (Exist z.0 z.1) q.3.1 z.2.isin (λ m u. gained m (Plain a, isin, inr ((q.0, q.1, q.2), u))), z),
+            (c, pick c (Exist z.0 z.1) q.3.1 z.2.isin (λ m u. gained m (Plain a, el, inr ((q.0, q.1, q.2), u))), z),
           )))
-      narrow (Exist r k) isin others (inl q) = inl q
-      narrow (Exist r k) isin others (inr (inl q)) = inr (inl q)
-      narrow (Exist r k) isin others (inr (inr q)) =
+      narrow (Exist r k) el others (inl q) = inl q
+      narrow (Exist r k) el others (inr (inl q)) = inr (inl q)
+      narrow (Exist r k) el others (inr (inr q)) =
           let b = q.3.0 in
           inr (inr (
             q.0,
             q.1,
             q.2,
-            (b, pick b (Plain q.0.atom) q.3.1 q.3.2.isin (λ m u. gained m (Exist r k, isin, (q.0, q.1, u))), q.3.2, q.3.3),
+            (b, pick b (Plain q.0.atom) q.3.1 q.3.2.isin (λ m u. gained m (Exist r k, el, (q.0, q.1, u))), q.3.2, q.3.3),
           ))
 
   pub enough : AreEnough n f clauses premise live numbers
   enough taken alive filed key backs deads d q =
       let s = from_clause_some n key clauses taken premise backs deads d q in
       some_from_clause n key clauses numbers premise backs deads d
-      (s.0, s.1, narrow taken alive filed backs deads key d s.0 s.1.isin (rest s.0 (get_or clauses premise [])) s.2)
+      (s.0, s.1, narrow taken alive filed backs deads key d s.0 s.1 (rest s.0 (get_or clauses premise [])) s.2)

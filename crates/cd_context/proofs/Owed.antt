@@ -15,6 +15,7 @@ use Rattle.cd_store.specs.Store.{IsAscending}
 use Rattle.cd_store.proofs.Picks.{picked_in, picked_from}
 use Rattle.cd_rules.specs.declared.facts.BackFact.{BackFact}
 use Rattle.cd_rules.specs.declared.facts.DeadFact.{DeadFact}
+use Rattle.cd_rules.specs.LookUps.{AreAtAtom}
 use Rattle.cd_context.specs.declared.facts.Fact.TheVariants.{Back}
 use Rattle.cd_context.specs.declared.facts.LinkFact.{LinkFact}
 use Rattle.cd_context.specs.declared.facts.Note.{Note}
@@ -22,9 +23,9 @@ use Rattle.cd_context.specs.Calls.{Sends, ListsOwed}
 use Rattle.cd_context.specs.Noting.{Notes}
 use Rattle.cd_context.specs.Once.{AppendsOnce}
 use Rattle.cd_context.specs.Owes.{Owes, owes_link, owes_back, owes_dead}
-use Rattle.cd_context.specs.Parts.{AreAtAtom, AreFrom, IsUnderOne, IsOfUse, IsLinkNote, IsDeadNote, IsUsefulBack, IsLinkAt, IsBackAt, IsLinkOf, IsToldTo, IsToldBy, IsOwedBy}
+use Rattle.cd_context.specs.Parts.{AreFrom, IsUnderOne, IsOfUse, IsLinkNote, IsDeadNote, IsUsefulBack, IsLinkAt, IsBackAt, IsLinkOf, IsToldTo, IsToldBy, IsOwedBy}
 use Rattle.cd_context.specs.State.{State, live_of}
-use Rattle.cd_context.proofs.Found.{filtered_member, member_filtered}
+use Rattle.cd_rules.proofs.Found.{filtered_member, member_filtered}
 use Rattle.cd_context.proofs.Noting.{otherwise, OfOne, OfBelow}
 
 -- ---- one element

@@ -1,8 +1,9 @@
 -- Which clauses can be of use beside a premise.
-use Rattle.std.specs.Prelude.{◌≡◌, ℕ, ◌<◌, ◌⊎◌, List, length}
+use Rattle.std.specs.Prelude.{◌≡◌, ℕ, ◌<◌, ◌⊎◌, List, length, slice_index_or}
 use Rattle.cd_base.specs.Lists.{Member, Within}
 use Rattle.cd_base.specs.declared.normal.Normal.{Normal}
 use Rattle.cd_base.specs.declared.normal.Triple.{Triple}
+use Rattle.cd_clause.specs.Elements.{Eligible}
 use Rattle.cd_clause.specs.declared.elem.Elem.{Elem}
 use Rattle.cd_clause.specs.declared.elem.Elem.TheVariants.{Plain, Exist}
 use Rattle.cd_index.specs.Index.{left_of}
@@ -42,6 +43,10 @@ IsBesideExist n f m = (t : Triple) × Member t n.n4 × Member m (under f t.atom)
 abbrev pub IsBeside : Normal → Filed → Elem → ℕ → Type 0
 IsBeside n f (Plain a) m = IsBesideByCon n f a m ⊎ IsBesideUniversal n f a m
 IsBeside n f (Exist r k) m = IsBesideExist n f m
+
+-- the element at place i of the premise is eligible, and the number can be of use beside it
+abbrev pub IsBesideAt : Normal → Filed → List Elem → ℕ → ℕ → Type 0
+IsBesideAt n f c i m = Eligible n (slice_index_or c i (Plain 0)) c × IsBeside n f (slice_index_or c i (Plain 0)) m
 
 -- `new` has what `old` has, and each number of which P holds
 abbrev pub Gains : (ℕ → Type 0) → List ℕ → List ℕ → Type 0

@@ -11,10 +11,6 @@ use Rattle.cd_context.specs.declared.facts.Fact.TheVariants.{Link, Back, Dead}
 use Rattle.cd_context.specs.declared.facts.LinkFact.{LinkFact}
 use Rattle.cd_context.specs.declared.facts.Note.{Note}
 
--- these are the triples with this `atom`
-abbrev pub AreAtAtom : List Triple → ℕ → List Triple → Type 0
-AreAtAtom triples atom found = (t : Triple) → Member t found ↔ (Member t triples × (t.atom ≡ atom))
-
 -- these are the numbers that are at least `least`
 abbrev pub AreFrom : ℕ → List ℕ → List ℕ → Type 0
 AreFrom least numbers found = (m : ℕ) → Member m found ↔ (Member m numbers × (least ≤ m))

@@ -4,7 +4,7 @@ ghost use Rattle.cd_base.specs.Keys.{plain, negated, is_named};
 ghost use Rattle.cd_base.specs.Lists.{Member};
 ghost use Rattle.cd_context.specs.Justified.{IsContext, ClosedLocally};
 
-use crate::tests::{begun, hand_made};
+use crate::tests::{begun, hand_made, notes_when_begun};
 use crate::{Context, Fact, Note};
 use cd_base::{Atom, Key, Lit, Memory, Role};
 use cd_index::Index;
@@ -38,6 +38,12 @@ fn are_the_link_to(alloc: Global, notes: &[Note], key: Key) -> bool {
         [note] => *note == link,
         _ => false,
     }
+}
+
+/// Whether the notes are the link of 2 to the context of 4 and not 4, and no other.
+fn are_the_second_link(alloc: Global, notes: &[Note]) -> Result<bool, Memory> {
+    let key = four_and_not_four(alloc)?;
+    Ok(are_the_link_to(alloc, notes, key))
 }
 
 /// Tells the context of 2 that the context of 4 has the class 4.
@@ -87,8 +93,7 @@ fn tells_of_the_back(alloc: Global, index: &Index, context: &mut Context) -> Res
 {
     let mut out = Vec::new(alloc);
     tell_back(alloc, index, context, &mut out)?;
-    let key = four_and_not_four(alloc)?;
-    Ok(context.facts() == 6 && are_the_link_to(alloc, out.as_slice(), key))
+    Ok(context.facts() == 6 && are_the_second_link(alloc, out.as_slice())?)
 }
 
 /// Whether the dead gives the clause of 5, and nothing is told.
@@ -133,17 +138,25 @@ fn takes_both(alloc: Global, index: &Index, context: &mut Context) -> Result<boo
     Ok(by_back && by_dead)
 }
 
-/// Whether the context of 2 owes the link to the context of 4 when it is begun, and that alone after the back and the dead.
+/// Whether the context of 2, once begun, comes to what is wanted, and then owes the link to the context of 4 alone.
 fn begins_and_takes_both(alloc: Global, index: &Index) -> Result<bool, Memory>
     requires named { is_named index.now.normal 2 ≡ true }
     requires edge { Member (record { atom = 2; role = 0; other = 4 }) index.now.normal.n2 }
     requires back { Member (record { atom = 4; role = 0; other = 5 }) index.now.normal.n3 }
 {
-    let mut out = Vec::new(alloc);
-    let mut context = begun(alloc, index, &mut out)?;
-    let takes = takes_both(alloc, index, &mut context)?;
-    let owes = owes_the_first_link_alone(alloc, index, &context)?;
-    Ok(takes && owes && are_the_link_to(alloc, out.as_slice(), four(alloc)))
+    let mut context = begun(alloc, index)?;
+    Ok(
+        takes_both(alloc, index, &mut context)?
+            && owes_the_first_link_alone(alloc, index, &context)?,
+    )
+}
+
+/// Whether the context of 2 tells the link to the context of 4 when it is begun, and nothing else.
+fn tells_the_first_link(alloc: Global, index: &Index) -> Result<bool, Memory>
+    requires { is_named index.now.normal 2 ≡ true }
+{
+    let notes = notes_when_begun(alloc, index)?;
+    Ok(are_the_link_to(alloc, notes.as_slice(), four(alloc)))
 }
 
 #[test]
@@ -153,5 +166,13 @@ fn a_clause_whose_existential_is_impossible_gives_way_to_its_rest(
     let alloc = rt.alloc();
     let index = hand_made(alloc)?;
     assert!(rt; begins_and_takes_both(alloc, &index)?);
+    Ok(())
+}
+
+#[test]
+fn an_existential_is_told_as_a_link(rt: HostRuntime) -> Result<(), Fail> {
+    let alloc = rt.alloc();
+    let index = hand_made(alloc)?;
+    assert!(rt; tells_the_first_link(alloc, &index)?);
     Ok(())
 }

@@ -6,19 +6,20 @@
 ghost use Rattle.std.specs.Prelude.{◌≡◌, ◌⊎◌, ◌<◌, ◌↔◌, ℕ, [], length, slice_index_or, true, IfOk, OnOk, MatchOption};
 ghost use Rattle.cd_base.specs.Lists.{Member};
 ghost use Rattle.cd_base.specs.declared.normal.Triple.{Triple};
+ghost use Rattle.cd_clause.specs.Elements.{Eligible};
 ghost use Rattle.cd_clause.specs.declared.elem.Elem.{Elem};
 ghost use Rattle.cd_index.specs.Index.{IsFiling};
 ghost use Rattle.cd_rules.specs.LookUps.{AreNumbers};
-ghost use Rattle.cd_context.specs.Beside.{AreEnough, Gains, HasFiled, IsBeside, IsBesideByCon, IsBesideByOne, IsBesideExist, IsBesideLeft, IsBesideUniversal};
+ghost use Rattle.cd_context.specs.Beside.{AreEnough, Gains, HasFiled, IsBeside, IsBesideAt, IsBesideByCon, IsBesideByOne, IsBesideExist, IsBesideLeft, IsBesideUniversal};
 ghost use Rattle.cd_context.specs.Filing.{under, IsFiled, IsUnder};
 ghost use Rattle.cd_store.specs.Store.{IsAscending};
 
 use crate::filing::Filing;
 use crate::live::is_among;
-use crate::look_ups::{alls, filed, with_left};
 use cd_base::{Atom, Memory};
-use cd_clause::{Clause, Elem};
+use cd_clause::{Clause, Elem, eligible};
 use cd_index::Index;
+use cd_rules::look_ups::{alls, filed, with_left};
 use std::alloc::Global;
 
 /// Where there are no more than so many axioms with an atom on the left, no other way to find them is tried.
@@ -26,7 +27,7 @@ const FEW: usize = 8;
 
 /// Numbers of live clauses, among them each that can be of use beside the premise, where that is filed. Its own is left out.
 ///
-/// The cost is that of a look at each axiom that is tried for an atom of the premise, of all that is filed for those that can fire or for
+/// The cost is that of a look at each axiom that is tried for an eligible atom of the premise, of all that is filed for those that can fire or for
 /// All, `n log n` in these numbers, and logarithmic in the live clauses for each of them. For an existential it is also linear in the
 /// universals or in the atoms that are filed, whichever are fewer.
 pub(crate) fn beside(
@@ -78,7 +79,7 @@ fn live_among(
     Ok(found)
 }
 
-/// Appends what is beside the elements of the clause of this number, which is filed.
+/// Appends what is beside the eligible elements of the clause of this number, which is filed.
 fn push_beside(
     index: &Index,
     filing: &Filing,
@@ -87,11 +88,31 @@ fn push_beside(
     found: &mut Vec<usize>,
 ) -> Result<(), Memory>
     requires { IsFiled filing.now number clause.now }
-    ensures { OnOk result (Gains (λ m. (e : Elem) × Member e clause.now × IsBeside index.now.normal filing.now e m) found.old.items found.new.items) }
+    ensures { OnOk result (Gains (λ m. (e : Elem) × Eligible index.now.normal e clause.now × IsBeside index.now.normal filing.now e m) found.old.items found.new.items) }
 {
-    let elems = clause.elems();
-    'elems: for i in 0..elems.len() {
-        push_beside_elem(index, filing, &elems[i], found)?;
+    let count = clause.elems().len();
+    'places: for i in 0..count {
+        push_beside_at(index, filing, number, clause, i, found)?;
+    }
+    Ok(())
+}
+
+/// Appends what is beside the element at place `i` of the clause of this number, which is filed, where that element is eligible: the rules
+/// work on no other.
+fn push_beside_at(
+    index: &Index,
+    filing: &Filing,
+    number: usize,
+    clause: &Clause,
+    i: usize,
+    found: &mut Vec<usize>,
+) -> Result<(), Memory>
+    requires place { i < length clause.now }
+    requires filed { IsFiled filing.now number clause.now }
+    ensures { OnOk result (Gains (IsBesideAt index.now.normal filing.now clause.now i) found.old.items found.new.items) }
+{
+    if eligible(clause, i, index.normal()) {
+        push_beside_elem(index, filing, &clause.elems()[i], found)?;
     }
     Ok(())
 }

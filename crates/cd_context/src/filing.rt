@@ -7,6 +7,7 @@ ghost use Rattle.cd_context.specs.Filing.{atoms_of, under, IsFiled, IsUnder, Kee
 use cd_base::{Atom, Memory};
 use cd_clause::{Clause, Elem};
 use indexmap::IndexMap;
+use smallvec::SmallVec;
 use std::alloc::Global;
 use std::marker::Model;
 
@@ -16,7 +17,7 @@ use std::marker::Model;
 /// on an order of the elements.
 #[derive(Debug, Drop)]
 pub(crate) struct Filing {
-    by_atom: IndexMap<u32, Vec<usize>>,
+    by_atom: IndexMap<u32, SmallVec<usize, 2>>,
     with_exist: Vec<usize>,
 }
 
@@ -91,7 +92,8 @@ impl Filing {
         ensures filed { OnOk result (IsUnder self.new (Plain atom) number) }
         ensures kept { KeepsFiled self.old self.new }
     {
-        let list = vec![in alloc; number]?;
+        let mut list = SmallVec::new(alloc);
+        list.push(number)?;
         self.by_atom.insert(atom.number(), list)?;
         Ok(())
     }

@@ -18,7 +18,6 @@ mod fact_lists;
 mod facts;
 mod filing;
 mod live;
-mod look_ups;
 mod notes;
 mod owing;
 mod sending;

@@ -2,15 +2,16 @@
 //! one a back for each atom that is eligible and of use there, or a dead where the clause is empty.
 ghost use Rattle.std.specs.Prelude.{◌≡◌, ◌↔◌, ◌<◌, length, true, IsOk};
 ghost use Rattle.cd_base.specs.Lists.{Member};
+ghost use Rattle.cd_rules.specs.LookUps.{AreAtAtom};
 ghost use Rattle.cd_context.specs.Noting.{Notes};
-ghost use Rattle.cd_context.specs.Parts.{AreAtAtom, IsUnderOne, IsLinkNote, IsBackNote, IsDeadNote, IsUsefulBack, IsLinkAt, IsBackAt, IsLinkOf, IsToldBy};
+ghost use Rattle.cd_context.specs.Parts.{IsUnderOne, IsLinkNote, IsBackNote, IsDeadNote, IsUsefulBack, IsLinkAt, IsBackAt, IsLinkOf, IsToldBy};
 ghost use Rattle.cd_context.specs.declared.facts.LinkFact.{LinkFact};
 
 use crate::facts::{Fact, LinkFact, Note};
-use crate::look_ups::{backs_of, is_under};
 use cd_base::{Atom, Key, Memory, Role, Triple};
 use cd_clause::{Clause, Elem, eligible};
 use cd_index::Index;
+use cd_rules::look_ups::{backs, is_under};
 
 /// Appends a link for each existential of the clause that is eligible. Linear in the clause, each time once more for an existential.
 pub(crate) fn note_links(
@@ -119,7 +120,7 @@ fn tell_atom(
 ) -> Result<(), Memory>
     ensures { Notes (λ note. (f : LinkFact) × Member f links.now × IsUsefulBack index.now.normal key.now atom f note) (IsOk result) out.old.items out.new.items }
 {
-    let axioms = backs_of(index, atom);
+    let axioms = backs(index, atom);
     if axioms.is_empty() {
         return Ok(());
     }

@@ -142,14 +142,34 @@ pub(crate) fn hand_made(alloc: Global) -> Result<Index, Memory>
     Index::of(alloc, normal, closure)
 }
 
-/// The context of the class 2.
-pub(crate) fn begun(alloc: Global, index: &Index, out: &mut Vec<Note>) -> Result<Context, Memory>
+/// Begins the context of the class 2.
+fn begin_two(alloc: Global, index: &Index, out: &mut Vec<Note>) -> Result<Context, Memory>
     requires { is_named index.now.normal 2 ≡ true }
     ensures key { IfOk result (λ c. c.key ≡ plain 2 ∷ []) }
     ensures context { IfOk result (λ c. IsContext index.now.normal c) }
     ensures closed { IfOk result (λ c. ClosedLocally index.now.normal c) }
 {
     Context::begin(alloc, Key::single(alloc, Atom(2)), index, out)
+}
+
+/// The context of the class 2.
+pub(crate) fn begun(alloc: Global, index: &Index) -> Result<Context, Memory>
+    requires { is_named index.now.normal 2 ≡ true }
+    ensures key { IfOk result (λ c. c.key ≡ plain 2 ∷ []) }
+    ensures context { IfOk result (λ c. IsContext index.now.normal c) }
+    ensures closed { IfOk result (λ c. ClosedLocally index.now.normal c) }
+{
+    let mut out = Vec::new(alloc);
+    begin_two(alloc, index, &mut out)
+}
+
+/// What the context of the class 2 tells when it begins.
+pub(crate) fn notes_when_begun(alloc: Global, index: &Index) -> Result<Vec<Note>, Memory>
+    requires { is_named index.now.normal 2 ≡ true }
+{
+    let mut out = Vec::new(alloc);
+    begin_two(alloc, index, &mut out)?;
+    Ok(out)
 }
 
 /// Whether it has the clauses of 2, of owl:Thing and of 3, and that of the edge, and no other.
@@ -162,45 +182,77 @@ fn is_as_it_should_be(context: &Context) -> bool {
         && !context.has_empty()
 }
 
+/// Whether the context of the class 2 is as it should be.
+fn begins_as_it_should(alloc: Global, index: &Index) -> Result<bool, Memory>
+    requires { is_named index.now.normal 2 ≡ true }
+{
+    let context = begun(alloc, index)?;
+    Ok(is_as_it_should_be(&context))
+}
+
+#[test]
+fn a_context_is_closed(rt: HostRuntime) -> Result<(), Fail> {
+    let alloc = rt.alloc();
+    let index = hand_made(alloc)?;
+    assert!(rt; begins_as_it_should(alloc, &index)?);
+    Ok(())
+}
+
 /// Whether these are the atoms 0, 2 and 3.
 fn are_the_three(atoms: &[Atom]) -> bool {
     atoms.len() == 3 && atoms[0].number() == 0 && atoms[1].number() == 2 && atoms[2].number() == 3
 }
 
-#[test]
-fn a_context_is_closed_and_tells_its_link(rt: HostRuntime) -> Result<(), Fail> {
-    let alloc = rt.alloc();
-    let index = hand_made(alloc)?;
-    let mut out = Vec::new(alloc);
-    let context = begun(alloc, &index, &mut out)?;
-    assert!(rt; is_as_it_should_be(&context));
-    assert_eq!(rt; out.len(), 1);
-    Ok(())
+/// Whether 0, 2 and 3 stand alone in it, in this order.
+fn has_the_three_alone(alloc: Global, context: &Context) -> Result<bool, Memory> {
+    let atoms = context.singles(alloc)?;
+    Ok(are_the_three(atoms.as_slice()))
+}
+
+/// Whether 0, 2 and 3 stand alone in the context of the class 2, in this order.
+fn begins_with_the_three(alloc: Global, index: &Index) -> Result<bool, Memory>
+    requires { is_named index.now.normal 2 ≡ true }
+{
+    let context = begun(alloc, index)?;
+    has_the_three_alone(alloc, &context)
 }
 
 #[test]
 fn the_atoms_that_stand_alone_ascend(rt: HostRuntime) -> Result<(), Fail> {
     let alloc = rt.alloc();
     let index = hand_made(alloc)?;
-    let mut out = Vec::new(alloc);
-    let context = begun(alloc, &index, &mut out)?;
-    let atoms = context.singles(alloc)?;
-    assert!(rt; are_the_three(atoms.as_slice()));
+    assert!(rt; begins_with_the_three(alloc, &index)?);
     Ok(())
 }
 
 /// Whether it has the clauses of 2, of owl:Thing and of 3, that of the edge to a 4, and that of the edge to what is a 4 and a 5.
-fn has_what_pairs_give(context: &Context) -> bool {
-    context.facts() == 5 && context.has_single(Atom(3))
+fn has_what_pairs_give(alloc: Global, index: &Index) -> Result<bool, Memory>
+    requires { is_named index.now.normal 2 ≡ true }
+{
+    let context = begun(alloc, index)?;
+    Ok(context.facts() == 5 && context.has_single(Atom(3)))
+}
+
+/// Whether it tells two links when it begins.
+fn tells_two_links(alloc: Global, index: &Index) -> Result<bool, Memory>
+    requires { is_named index.now.normal 2 ≡ true }
+{
+    let notes = notes_when_begun(alloc, index)?;
+    Ok(notes.len() == 2)
 }
 
 #[test]
 fn clauses_that_are_of_use_to_each_other_meet(rt: HostRuntime) -> Result<(), Fail> {
     let alloc = rt.alloc();
     let index = universal_index(alloc)?;
-    let mut out = Vec::new(alloc);
-    let context = begun(alloc, &index, &mut out)?;
-    assert!(rt; has_what_pairs_give(&context));
-    assert_eq!(rt; out.len(), 2);
+    assert!(rt; has_what_pairs_give(alloc, &index)?);
+    Ok(())
+}
+
+#[test]
+fn each_existential_that_pairs_give_is_told(rt: HostRuntime) -> Result<(), Fail> {
+    let alloc = rt.alloc();
+    let index = universal_index(alloc)?;
+    assert!(rt; tells_two_links(alloc, &index)?);
     Ok(())
 }

@@ -8,7 +8,8 @@ use Rattle.cd_actor.specs.Meaning.{Meaning}
 use Rattle.cd_actor.specs.Cells.{At, IsLawful, Had, HadOrPends, AreCells}
 use Rattle.cd_core.specs.State.{Runs}
 use Rattle.cd_core.specs.Begin.{AreAllLawful, IsNotHadOf, IsOwedOf, IsOwedInTurn, IsBegun}
-use Rattle.cd_actor.proofs.Members.{member_left, member_right, member_parts, apart_more}
+use Rattle.cd_base.proofs.Members.{member_left, member_right, member_cases}
+use Rattle.cd_actor.proofs.Members.{apart_more}
 use Rattle.cd_actor.proofs.At.{at_one, at_some}
 use Rattle.cd_core.proofs.Lists.{sent_more, follows_more, take_at}
 
@@ -51,7 +52,7 @@ module _ {A M : Type 0} (g : Meaning A M) (cells : List A) (all old left new : L
   pub join_keep : g.has a m ≡ false → (after : List (ℕ × M)) → after ≡ new ++ (p, m) ∷ [] → IsJoining g cells all old less after
   join_keep h after f =
       let s : sent old after ≡ sent old new ++ (p, m) ∷ [] = sent_more old new after ((p, m) ∷ []) now.follows f in
-      let parts = λ (x : ℕ × M) (i : Member x (sent old after)). member_parts (sent old new) ((p, m) ∷ []) x (subst (λ q. Member x q) s i) in record {
+      let parts = λ (x : ℕ × M) (i : Member x (sent old after)). member_cases x (sent old new) ((p, m) ∷ []) (subst (λ q. Member x q) s i) in record {
         follows = follows_more old new after ((p, m) ∷ []) now.follows f;
         lawful = λ x i. now.lawful x (inr i);
         left_apart = now.left_apart.1;
@@ -66,8 +67,8 @@ module _ {A M : Type 0} (g : Meaning A M) (cells : List A) (all old left new : L
         ];
         rest = λ x i. now.rest x (inr i);
         every = λ x i. elim (now.every x i) [
-          | inl k ↦ elim k [ inl q ↦ inr (inr (subst (λ l. Member x l) (sym s) (member_right (sent old new) ((p, m) ∷ []) x (inl q)))) | inr n ↦ inl n ]
-          | inr k ↦ elim k [ inl d ↦ inr (inl d) | inr d ↦ inr (inr (subst (λ l. Member x l) (sym s) (member_left (sent old new) ((p, m) ∷ []) x d))) ]
+          | inl k ↦ elim k [ inl q ↦ inr (inr (subst (λ l. Member x l) (sym s) (member_right x (sent old new) ((p, m) ∷ []) (inl q)))) | inr n ↦ inl n ]
+          | inr k ↦ elim k [ inl d ↦ inr (inl d) | inr d ↦ inr (inr (subst (λ l. Member x l) (sym s) (member_left x (sent old new) ((p, m) ∷ []) d))) ]
         ];
       }
 
@@ -111,7 +112,7 @@ in_turn_next g cells i a old now new at f e h o =
 -- each message is owed by one of the cells
 pub in_turn_only : {A M : Type 0} (g : Meaning A M) (cells rest : List A) (more : List (ℕ × M)) → IsOwedInTurn g cells rest more → (x : ℕ × M) → Member x more → (i : ℕ) × (a : A) × At rest i a × g.owes a x.0 x.1
 in_turn_only g cells [] more h x k = absurd (subst (λ q. Member x q) h k)
-in_turn_only g cells (b ∷ rest) more h x k = elim (member_parts h.0 h.1 x (subst (λ q. Member x q) h.2 k)) [
+in_turn_only g cells (b ∷ rest) more h x k = elim (member_cases x h.0 h.1 (subst (λ q. Member x q) h.2 k)) [
   | inl w ↦ (zero, b, refl, ((h.3.are x).0 w).0)
   | inr w ↦ let r = in_turn_only g cells rest h.1 h.4 x w in (suc r.0, r.1, r.2, r.3)
 ]
@@ -120,15 +121,15 @@ in_turn_only g cells (b ∷ rest) more h x k = elim (member_parts h.0 h.1 x (sub
 in_turn_every : {A M : Type 0} (g : Meaning A M) (cells rest : List A) (more : List (ℕ × M)) → IsOwedInTurn g cells rest more → (i : ℕ) (a : A) → At rest i a → (x : ℕ × M) → g.owes a x.0 x.1 → (Had g cells x → ⊥) → Member x more
 in_turn_every g cells [] more h i a at x o n = elim at [ ]
 in_turn_every g cells (b ∷ rest) more h zero a at x o n =
-    subst (λ q. Member x q) (sym h.2) (member_left h.0 h.1 x ((h.3.are x).1 (subst (λ c. g.owes c x.0 x.1) at o, n)))
-in_turn_every g cells (b ∷ rest) more h (suc i) a at x o n = subst (λ q. Member x q) (sym h.2) (member_right h.0 h.1 x (in_turn_every g cells rest h.1 h.4 i a at x o n))
+    subst (λ q. Member x q) (sym h.2) (member_left x h.0 h.1 ((h.3.are x).1 (subst (λ c. g.owes c x.0 x.1) at o, n)))
+in_turn_every g cells (b ∷ rest) more h (suc i) a at x o n = subst (λ q. Member x q) (sym h.2) (member_right x h.0 h.1 (in_turn_every g cells rest h.1 h.4 i a at x o n))
 
 -- the cells with the start messages and what is owed
 pub runs_begun : {A M : Type 0} (g : Meaning A M) (cells : List A) (start more pending : List (ℕ × M)) → AreCells g cells → ((a : A) (p : ℕ) (m : M) → g.whole a → g.owes a p m → g.lawful a p m) → ((a : A) (p : ℕ) (m : M) → g.lawful a p m → p < g.places a)
     → AreAllLawful g cells start → pending ≡ start ++ more → IsOwedInTurn g cells cells more → Runs g cells pending
 runs_begun {A = A} {M = M} g cells start more pending k law below s e o = record {
   cells_ok = k;
-  lawful = λ x h. elim (member_parts start more x (subst (λ q. Member x q) e h)) [
+  lawful = λ x h. elim (member_cases x start more (subst (λ q. Member x q) e h)) [
     | inl i ↦ s x i
     | inr i ↦ let w = in_turn_only g cells cells more o x i in owed_lawful g cells w.0 w.1 x k law below w.2 w.3
   ];
@@ -140,7 +141,7 @@ runs_begun {A = A} {M = M} g cells start more pending k law below s e o = record
         let l = owed_lawful g cells i a x k law below at w in let c = at_some cells x.0 l.0 in
         elim (cases_Bool (g.has c.0 x.1)) [
           | inl h ↦ inl (c.0, c.1, h)
-          | inr h ↦ inr (subst (λ q. Member x q) (sym e) (member_right start more x (in_turn_every g cells cells more o i a at x w (λ d.
+          | inr h ↦ inr (subst (λ q. Member x q) (sym e) (member_right x start more (in_turn_every g cells cells more o i a at x w (λ d.
               let z : d.0 ≡ c.0 = at_one cells x.0 d.0 c.0 d.1 c.1 in let v : g.has c.0 x.1 ≡ true = subst (λ b. g.has b x.1 ≡ true) z d.2 in cc))))
         ]
 

@@ -8,7 +8,8 @@ use Rattle.cd_base.specs.Lists.{Member, IsApart, collect}
 use Rattle.cd_actor.specs.Sends.{sent, Sends}
 use Rattle.cd_actor.specs.Meaning.{Meaning, Delivers}
 use Rattle.cd_actor.specs.Cells.{At}
-use Rattle.cd_actor.proofs.Members.{member_left, member_right, member_parts, apart_more}
+use Rattle.cd_base.proofs.Members.{member_left, member_right, member_cases}
+use Rattle.cd_actor.proofs.Members.{apart_more}
 use Rattle.cd_core.proofs.Lists.{sent_all, take_at}
 
 -- a number n above 0 owes n - 1 to the cell at place n - 1, counted round
@@ -58,7 +59,7 @@ to_owed places (suc n) p m e q = let k : m ≡ n = omega arith in inl (ap (λ i.
 -- each message that the numbers owe is owed by one of them
 pub from_all : (places : ℕ) (ns : List ℕ) (p m : ℕ) → Member (p, m) (all_owed places ns) → Member (m + 1) ns × (p ≡ m % places)
 from_all places [] p m h = elim h [ ]
-from_all places (n ∷ ns) p m h = elim (member_parts (owed places n) (all_owed places ns) (p, m) h) [
+from_all places (n ∷ ns) p m h = elim (member_cases (p, m) (owed places n) (all_owed places ns) h) [
   | inl k ↦ let r = from_owed places n p m k in (inl (sym r.0), r.1)
   | inr k ↦ let r = from_all places ns p m k in (inr r.0, r.1)
 ]
@@ -66,8 +67,8 @@ from_all places (n ∷ ns) p m h = elim (member_parts (owed places n) (all_owed 
 -- each message that one of the numbers owes is there
 pub to_all : (places : ℕ) (ns : List ℕ) (p m : ℕ) → Member (m + 1) ns → p ≡ m % places → Member (p, m) (all_owed places ns)
 to_all places [] p m h q = elim h [ ]
-to_all places (n ∷ ns) p m (inl e) q = member_left (owed places n) (all_owed places ns) (p, m) (to_owed places n p m (sym e) q)
-to_all places (n ∷ ns) p m (inr h) q = member_right (owed places n) (all_owed places ns) (p, m) (to_all places ns p m h q)
+to_all places (n ∷ ns) p m (inl e) q = member_left (p, m) (owed places n) (all_owed places ns) (to_owed places n p m (sym e) q)
+to_all places (n ∷ ns) p m (inr h) q = member_right (p, m) (owed places n) (all_owed places ns) (to_all places ns p m h q)
 
 -- numbers that stand once owe each message once
 pub all_apart : (places : ℕ) (ns : List ℕ) → IsApart ns → IsApart (all_owed places ns)
@@ -91,7 +92,7 @@ module _ (v w : ℕ × ℕ × List ℕ) (m : ℕ) (place : w.0 ≡ v.0) (places 
   new_owed : (p n : ℕ) → Member (n + 1) w.2 × (p ≡ n % w.1) → (Member (n + 1) v.2 × (p ≡ n % v.1)) ⊎ Member (p, n) (owed v.1 m)
   new_owed p n h =
       let q : p ≡ n % v.1 = h.1 ∙ ap (λ k. n % k) places in
-      elim (member_parts v.2 (m ∷ []) (n + 1) (subst (λ r. Member (n + 1) r) more h.0)) [
+      elim (member_cases (n + 1) v.2 (m ∷ []) (subst (λ r. Member (n + 1) r) more h.0)) [
         | inl k ↦ inl (k, q)
         | inr k ↦ elim k [ inl e ↦ inr (to_owed v.1 m p n (sym e) q) | inr z ↦ elim z [ ] ]
       ]
@@ -100,7 +101,7 @@ module _ (v w : ℕ × ℕ × List ℕ) (m : ℕ) (place : w.0 ≡ v.0) (places 
   pub delivers_more : v.0 < v.1 → Delivers meaning v m w (owed v.1 m)
   delivers_more h = record {
     whole = omega arith;
-    had = has_member w.2 m (subst (λ q. Member m q) (sym more) (member_right v.2 (m ∷ []) m (inl refl)));
+    had = has_member w.2 m (subst (λ q. Member m q) (sym more) (member_right m v.2 (m ∷ []) (inl refl)));
     owed = new_owed;
     risen = λ _. inl (grind (arith, common_steps));
   }

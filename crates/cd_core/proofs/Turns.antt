@@ -8,7 +8,7 @@ use Rattle.cd_actor.specs.Meaning.{HasRisen, Meaning, Keeps, Delivers}
 use Rattle.cd_actor.specs.Cells.{At, IsLawful, Had, HadOrPends, IsOwedCovered, last, total}
 use Rattle.cd_core.specs.State.{Runs, KeepsAll, KeepsFamily, KeepsHad}
 use Rattle.cd_core.specs.Ends.{IsEnd}
-use Rattle.cd_actor.proofs.Members.{member_left, member_right, member_parts}
+use Rattle.cd_base.proofs.Members.{member_left, member_right, member_cases}
 use Rattle.cd_actor.proofs.At.{at_below, at_one, at_of_set, at_to_set, at_same, at_some, at_get, remove_to, remove_from, at_member}
 
 module _ {A M : Type 0} (g : Meaning A M) (below : (a : A) (p : ℕ) (m : M) → g.lawful a p m → p < g.places a) (cells : List A) (p : ℕ) (m : M) (pending out : List (ℕ × M)) (a b : A)
@@ -28,7 +28,7 @@ module _ {A M : Type 0} (g : Meaning A M) (below : (a : A) (p : ℕ) (m : M) →
   turn_keeps x (inr (inl e)) =
       let i : At (set cells p b) p b = at_same cells p b a at in
       let f : (p, m) ≡ x = sym e in subst (λ y. HadOrPends g (set cells p b) (pending ++ out) y) f (inl (b, i, d.had))
-  turn_keeps x (inr (inr h)) = inr (member_left pending out x h)
+  turn_keeps x (inr (inr h)) = inr (member_left x pending out h)
 
   -- a cell after the turn is the one that took the message, or one from before
   cases_at : (i : ℕ) (x : A) → At (set cells p b) i x → ((i ≡ p) × (x ≡ b)) ⊎ At cells i x
@@ -73,14 +73,14 @@ module _ {A M : Type 0} (g : Meaning A M) (below : (a : A) (p : ℕ) (m : M) →
   lawful_at x l = let c = at_some cells x.0 l.0 in r.cells_ok.lawful x.0 p c.0 a c.1 at x.0 x.1 (l.1 c.0 c.1)
 
   lawful_step : (x : ℕ × M) → Member x (pending ++ out) → IsLawful g (set cells p b) x
-  lawful_step x h = elim (member_parts pending out x h) [
+  lawful_step x h = elim (member_cases x pending out h) [
     | inl i ↦ let l = r.lawful x (inr i) in lawful_of x (lawful_at x l)
     | inr i ↦ lawful_of x (s x i)
   ]
 
   owed_step : IsOwedCovered g (set cells p b) (pending ++ out)
   owed_step i x h q n o = elim (cases_at i x h) [
-    | inl e ↦ elim (d.owed q n (subst (λ c. g.owes c q n) e.1 o)) [ inl f ↦ turn_keeps (q, n) (r.owed p a at q n f) | inr f ↦ inr (member_right pending out (q, n) f) ]
+    | inl e ↦ elim (d.owed q n (subst (λ c. g.owes c q n) e.1 o)) [ inl f ↦ turn_keeps (q, n) (r.owed p a at q n f) | inr f ↦ inr (member_right (q, n) pending out f) ]
     | inr e ↦ turn_keeps (q, n) (r.owed i x e q n o)
   ]
 

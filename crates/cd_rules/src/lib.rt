@@ -2,7 +2,7 @@
 //!
 //! A context calls `on_key` once, `on_clause` for each clause that it takes up, and `on_back` and `on_dead` for each fact that comes.
 //! One module has one rule and is named as the rule, with its picture over it. Each goes from one eligible element of the premise, whose
-//! rest is made once, to what the index lists for that element (`premise`).
+//! rest is made once, to what the index lists for that element (`premise`). `look_ups` asks the index for any atom or role.
 #![tactic(auto)]
 
 mod all;
@@ -15,7 +15,7 @@ mod ex;
 mod existential;
 mod facts;
 mod init;
-mod look_ups;
+pub mod look_ups;
 mod neg;
 mod premise;
 #[cfg(test)]

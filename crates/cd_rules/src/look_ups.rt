@@ -9,7 +9,7 @@ use cd_base::{Atom, Role, Triple};
 use cd_index::Index;
 
 /// The axioms of `n2` with this atom. Constant time.
-pub(crate) fn gives<'a>(index: &'a Index, atom: Atom) -> &'a [Triple]
+pub fn gives<'a>(index: &'a Index, atom: Atom) -> &'a [Triple]
     ensures { AreAtAtom index.now.normal.n2 atom result.now }
 {
     let normal = index.normal();
@@ -21,7 +21,7 @@ pub(crate) fn gives<'a>(index: &'a Index, atom: Atom) -> &'a [Triple]
 }
 
 /// The axioms of `n3` with this atom. Constant time.
-pub(crate) fn backs<'a>(index: &'a Index, atom: Atom) -> &'a [Triple]
+pub fn backs<'a>(index: &'a Index, atom: Atom) -> &'a [Triple]
     ensures { AreAtAtom index.now.normal.n3 atom result.now }
 {
     let normal = index.normal();
@@ -33,7 +33,7 @@ pub(crate) fn backs<'a>(index: &'a Index, atom: Atom) -> &'a [Triple]
 }
 
 /// The axioms of `n4` with this atom. Constant time.
-pub(crate) fn alls<'a>(index: &'a Index, atom: Atom) -> &'a [Triple]
+pub fn alls<'a>(index: &'a Index, atom: Atom) -> &'a [Triple]
     ensures { AreAtAtom index.now.normal.n4 atom result.now }
 {
     let normal = index.normal();
@@ -45,7 +45,7 @@ pub(crate) fn alls<'a>(index: &'a Index, atom: Atom) -> &'a [Triple]
 }
 
 /// The numbers of the axioms of `n1` with this atom on the left. Constant time.
-pub(crate) fn with_left<'a>(index: &'a Index, atom: Atom) -> &'a [usize]
+pub fn with_left<'a>(index: &'a Index, atom: Atom) -> &'a [usize]
     ensures numbers { AreNumbers index.now.normal.n1 result.now }
     ensures every { HasAllWith index.now.normal.n1 atom result.now }
 {
@@ -58,7 +58,7 @@ pub(crate) fn with_left<'a>(index: &'a Index, atom: Atom) -> &'a [usize]
 }
 
 /// The numbers of the axioms of `n1` that are filed under this atom. Constant time.
-pub(crate) fn filed<'a>(index: &'a Index, atom: Atom) -> &'a [usize]
+pub fn filed<'a>(index: &'a Index, atom: Atom) -> &'a [usize]
     ensures numbers { AreNumbers index.now.normal.n1 result.now }
     ensures list { result.now ≡ filed_at index.now.filed index.now.normal.atoms atom }
     ensures filing { atom < index.now.normal.atoms → IsFiling index.now.normal.n1 index.now.normal.atoms index.now.filed }
@@ -72,7 +72,7 @@ pub(crate) fn filed<'a>(index: &'a Index, atom: Atom) -> &'a [usize]
 }
 
 /// Whether the lower role is under the higher one. Logarithmic in the roles above it.
-pub(crate) fn is_under(index: &Index, lower: Role, higher: Role) -> bool
+pub fn is_under(index: &Index, lower: Role, higher: Role) -> bool
     ensures { (result ≡ true) ↔ Under index.now.normal.n5 lower higher }
 {
     let normal = index.normal();

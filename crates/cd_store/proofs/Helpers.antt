@@ -1,15 +1,12 @@
 -- The scans of the live clauses.
-use Rattle.std.proofs.Common.{◌≡◌, ℕ, zero, suc, ◌+◌, ◌<◌, ◌≤◌, inl, inr, List, [], ◌∷◌, ◌++◌, length, get_or, refl, ap, sym, ◌∙◌, subst, arith}
+use Rattle.std.proofs.Common.{◌≡◌, ℕ, zero, suc, ◌<◌, ◌≤◌, inl, inr, List, [], ◌∷◌, ◌++◌, length, get_or, refl, sym, subst, arith}
 use Rattle.cd_clause.specs.declared.elem.Elem.{Elem}
 use Rattle.cd_base.specs.Lists.{Member, Within}
-use Rattle.cd_clause.specs.Derivations.{Redundant}
-use Rattle.std.proofs.lemmas.Bool.{cases_lt}
 use Rattle.cd_base.proofs.Members.{member_left, member_right, member_cases}
-use Rattle.cd_base.proofs.Members.{member_get, member_at}
+use Rattle.cd_base.proofs.Members.{member_get}
 use Rattle.cd_store.specs.Sift.{Sifts}
-use Rattle.cd_clause.specs.Numbers.{picked}
-use Rattle.cd_store.specs.Store.{IsHeld, IsAscending}
-use Rattle.cd_store.proofs.Picks.{picked_from, ascends_append}
+use Rattle.cd_store.specs.Store.{IsAscending}
+use Rattle.cd_store.proofs.Picks.{ascends_append}
 
 pub get_same : {X : Type 0} (xs : List X) (i : ℕ) (d e : X) → i < length xs → get_or xs i d ≡ get_or xs i e
 get_same [] i d e h = absurd (omega arith)
@@ -22,23 +19,6 @@ ascends_at (n ∷ ns) zero zero a l h = omega arith
 ascends_at (n ∷ ns) zero (suc k) a l h = let b : n < get_or ns k 0 = a.0 _ (member_get ns k 0 (omega arith)) in omega arith
 ascends_at (n ∷ ns) (suc i) zero a l h = absurd (omega arith)
 ascends_at (n ∷ ns) (suc i) (suc k) a l h = ascends_at ns i k a.1 (omega arith) (omega arith)
-
-pub is_held : (clauses : List (List Elem)) (live : List ℕ) (clause : List Elem) (i : ℕ) (held : List Elem) → ((n : ℕ) → Member n live → n < length clauses) → IsAscending live → i < length live → held ≡ get_or clauses (get_or live i 0) held → Within held clause
-    → ((k : ℕ) → k < i → Within (get_or clauses (get_or live k 0) []) clause → ⊥) → IsHeld clauses live clause (get_or live i 0)
-is_held clauses live clause i held range a l e w before = record {
-  isin = member_get live i 0 l;
-  within = subst (λ q. Within q clause) (e ∙ get_same clauses (get_or live i 0) held [] (range _ (member_get live i 0 l))) w;
-  least = λ j m v. let r = member_at j live m in
-      elim (cases_lt r.0 i) [
-        | inl b ↦ absurd (before r.0 b (subst (λ q. Within (get_or clauses q []) clause) (sym (r.2 0)) v))
-        | inr b ↦ let le : get_or live i 0 ≤ get_or live r.0 0 = ascends_at live i r.0 a b r.1 in let q : get_or live r.0 0 ≡ j = r.2 0 in omega arith
-      ];
-}
-
-pub none_held : (clauses : List (List Elem)) (live : List ℕ) (clause : List Elem) → ((k : ℕ) → k < length live → Within (get_or clauses (get_or live k 0) []) clause → ⊥) → Redundant (picked clauses live) clause → ⊥
-none_held clauses live clause h r =
-    let p = picked_from clauses live r.0 r.1 in let q = member_at p.0 live p.1 in
-    h q.0 q.1 (subst (λ c. Within c clause) (p.2 ∙ ap (λ n. get_or clauses n []) (sym (q.2 0))) r.2)
 
 pub sift_keep : (clauses : List (List Elem)) (c : List Elem) (xs ys : List ℕ) (n : ℕ) → Sifts clauses c xs ys → (Within c (get_or clauses n []) → ⊥) → Sifts clauses c (xs ++ n ∷ []) (ys ++ n ∷ [])
 sift_keep clauses c xs ys n s w = record {
@@ -69,9 +49,3 @@ sift_drop clauses c xs ys n s w = record {
     front : (ns : List ℕ) (n : ℕ) → IsAscending (ns ++ n ∷ []) → IsAscending ns
     front [] n a = tt
     front (k ∷ ns) n a = (λ m h. a.0 m (member_left m ns (n ∷ []) h), front ns n a.1)
-
-pub one_less : (clauses : List (List Elem)) (live : List ℕ) (clause : List Elem) (i : ℕ) (held : List Elem) → get_or live i 0 < length clauses → held ≡ get_or clauses (get_or live i 0) held → (Within held clause → ⊥) → ((k : ℕ) → k < i → Within (get_or clauses (get_or live k 0) []) clause → ⊥) → (k : ℕ) → k < i + 1 → Within (get_or clauses (get_or live k 0) []) clause → ⊥
-one_less clauses live clause i held l e nope h k b w = elim (cases_lt k i) [
-  | inl a ↦ h k a w
-  | inr a ↦ let q : k ≡ i = omega arith in nope (subst (λ z. Within z clause) (ap (λ z. get_or clauses (get_or live z 0) []) q ∙ get_same clauses (get_or live i 0) [] held l ∙ sym e) w)
-]

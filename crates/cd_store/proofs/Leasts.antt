@@ -1,14 +1,14 @@
 -- The least live subset of a clause, and that none is a superset.
-use Rattle.std.proofs.Common.{◌≡◌, ℕ, ◌<◌, ◌≤◌, ◌+◌, ◌-◌, ◌⊎◌, List, [], ◌∷◌, ◌++◌, Option, None, Some, length, take, drop, get_or, refl, sym, ◌∙◌, ap, subst, inl, inr, arith}
+use Rattle.std.proofs.Common.{◌≡◌, ℕ, ◌<◌, ◌≤◌, ◌+◌, ◌-◌, ◌⊎◌, ◌==◌, false, cond, List, [], ◌∷◌, ◌++◌, Option, None, Some, length, take, drop, get_or, slice_get, zero, suc, refl, sym, ◌∙◌, ap, subst, inl, inr, arith}
 use Rattle.std.proofs.Math.Seq.{take-length}
-use Rattle.std.proofs.lemmas.Bool.{cases_lt}
+use Rattle.std.proofs.lemmas.Bool.{cases_lt, ne_eqb}
 use Rattle.std.proofs.lemmas.List.{get_or_append_left, length-append}
 use Rattle.std.specs.Option.{MatchOption}
 use Rattle.cd_base.specs.Lists.{Member, Within}
 use Rattle.cd_clause.specs.declared.elem.Elem.{Elem}
 use Rattle.cd_clause.specs.Derivations.{Redundant}
 use Rattle.cd_clause.specs.Numbers.{picked}
-use Rattle.cd_store.specs.Filing.{filed_under, listed, AreFiled, IsFiled, KeepsFiled}
+use Rattle.cd_store.specs.Filing.{ends_in, goes_on_from, listed, AreFiled, IsFiled, KeepsFiled}
 use Rattle.cd_store.specs.Sift.{Sifts}
 use Rattle.cd_store.specs.Store.{IsStore, IsHeld}
 use Rattle.cd_store.specs.Subsets.{HoldsSubset, IsAtMost, IsSubset}
@@ -18,16 +18,45 @@ use Rattle.cd_store.proofs.Picks.{picked_from, get_last}
 pub only_empty : (clauses : List (List Elem)) (live : List ℕ) (n k : ℕ) → IsStore clauses live → Member n live → Member k live → get_or clauses n [] ≡ [] → n ≡ k
 only_empty clauses live n k s h i e = s.minimal n k h i (λ x m. absurd (subst (λ d. Member x d) e m))
 
--- each live subset is found: it is the empty clause, or shares its first element
+-- ---- what is filed
+
+-- a clause is filed under its last element
+pub filed_end : (f : List (ℕ × List ℕ)) (n : ℕ) (x : Elem) (c : List Elem) → IsFiled f n (x ∷ c) → (e : Elem) × Member e (x ∷ c) × Member n (listed f (ends_in e))
+filed_end f n x [] h = (x, inl refl, h)
+filed_end f n x (y ∷ c) h = let w = filed_end f n y c h.1 in (w.0, inr w.1, w.2)
+
+-- and under each of its elements, in one list or the other
+pub filed_with : (f : List (ℕ × List ℕ)) (n : ℕ) (c : List Elem) (e : Elem) → IsFiled f n c → Member e c → Member n (listed f (ends_in e)) ⊎ Member n (listed f (goes_on_from e))
+filed_with f n [] e h m = absurd m
+filed_with f n (x ∷ []) e h m = elim m [ inl q ↦ inl (subst (λ (z : Elem). Member n (listed f (ends_in z))) (sym q) h) | inr z ↦ absurd z ]
+filed_with f n (x ∷ (y ∷ c)) e h m = elim m [ inl q ↦ inr (subst (λ (z : Elem). Member n (listed f (goes_on_from z))) (sym q) h.0) | inr k ↦ filed_with f n (y ∷ c) e h.1 k ]
+
+-- it stays so where more is filed
+pub is_filed_kept : (f g : List (ℕ × List ℕ)) (n : ℕ) (c : List Elem) → KeepsFiled f g → IsFiled f n c → IsFiled g n c
+is_filed_kept f g n [] k h = tt
+is_filed_kept f g n (x ∷ []) k h = k (ends_in x) n h
+is_filed_kept f g n (x ∷ (y ∷ c)) k h = (k (goes_on_from x) n h.0, is_filed_kept f g n (y ∷ c) k h.1)
+
+-- what is at a place is a member
+pub member_got : {X : Type 0} (xs : List X) (i : ℕ) (x : X) → Some x ≡ slice_get xs i → Member x xs
+member_got [] i x e = let q : Some x ≡ None = e in absurd (cc)
+member_got (y ∷ xs) zero x e = let q : Some x ≡ Some y = e in let r : x ≡ y = cc in inl r
+member_got (y ∷ xs) (suc i) x e = inr (member_got xs i x e)
+
+-- ---- subsets and supersets
+
+-- each live subset is found: it is the empty clause, or ends in an element of this one
 pub all_found : (f : List (ℕ × List ℕ)) (clauses : List (List Elem)) (live : List ℕ) (clause : List Elem) (o : Option ℕ) → IsStore clauses live → AreFiled f clauses
     → ((n : ℕ) → Member n live → get_or clauses n [] ≡ [] → IsAtMost o n)
-    → ((e : Elem) (n : ℕ) → Member e clause → Member n (listed f (filed_under e)) → IsSubset clauses live clause n → IsAtMost o n)
+    → ((e : Elem) (n : ℕ) → Member e clause → Member n (listed f (ends_in e)) → IsSubset clauses live clause n → IsAtMost o n)
     → (n : ℕ) → IsSubset clauses live clause n → IsAtMost o n
 all_found f clauses live clause o store filed empty covers n s = by (get_or clauses n []) refl
   where
     by : (d : List Elem) → get_or clauses n [] ≡ d → IsAtMost o n
     by [] e = empty n s.isin e
-    by (x ∷ d) e = let m : Member x (get_or clauses n []) = subst (λ q. Member x q) (sym e) (inl refl) in covers x n (s.within x m) (filed n (store.in_range n s.isin) x m) s
+    by (x ∷ d) e =
+        let w = filed_end f n x d (subst (λ q. IsFiled f n q) e (filed n (store.in_range n s.isin))) in
+        covers w.0 n (s.within w.0 (subst (λ q. Member w.0 q) (sym e) w.1)) w.2 s
 
 -- the least of all live subsets
 pub finds : (clauses : List (List Elem)) (live : List ℕ) (clause : List Elem) (o : Option ℕ) → HoldsSubset clauses live clause o → ((n : ℕ) → IsSubset clauses live clause n → IsAtMost o n)
@@ -39,6 +68,12 @@ finds clauses live clause (Some i) h k = record { isin = h.isin; within = h.with
 pub sifts_none : (clauses : List (List Elem)) (clause : List Elem) (live : List ℕ) → ((n : ℕ) → Member n live → Within clause (get_or clauses n []) → ⊥) → Sifts clauses clause live live
 sifts_none clauses clause live none = record { kept = λ n h. inl h; only = λ n h. (h, none n h); ascends = λ a. a }
 
+-- ---- walks
+
+-- what follows the first
+pub tail : {X : Type 0} (z : X) (rest : List X) → take (length (z ∷ rest) - 1) (drop 1 (z ∷ rest)) ≡ rest
+tail z rest = let n : length (z ∷ rest) - 1 ≡ length rest = omega arith in ap (λ k. take k rest) n ∙ take-length rest
+
 -- a walk takes the first of what is left
 pub walked : {X : Type 0} (P : X → Type 0) (xs rest : List X) (x : X) → ((y : X) → Member y xs → Member y rest ⊎ P y) → 1 ≤ length rest → x ≡ get_or rest 0 x → P x
     → (y : X) → Member y xs → Member y (take (length rest - 1) (drop 1 rest)) ⊎ P y
@@ -47,18 +82,34 @@ walked P xs (z ∷ rest) x inv l e p y m = elim (inv y m) [
   | inl k ↦ elim k [ inl q ↦ inr (subst P (e ∙ sym q) p) | inr i ↦ inl (subst (λ w. Member y w) (sym (tail z rest)) i) ]
   | inr k ↦ inr k
 ]
-  where
-    tail : {X : Type 0} (z : X) (rest : List X) → take (length (z ∷ rest) - 1) (drop 1 (z ∷ rest)) ≡ rest
-    tail z rest = let n : length (z ∷ rest) - 1 ≡ length rest = omega arith in ap (λ k. take k rest) n ∙ take-length rest
 
 -- nothing is left at its end
 pub gone : {X : Type 0} (rest : List X) (x : X) → length rest < 1 → Member x rest → ⊥
 gone [] x l m = m
 gone (y ∷ rest) x l m = absurd (omega arith)
 
+-- where nothing is left of a clause to be filed, that is filed
+pub nothing_left : (f : List (ℕ × List ℕ)) (n : ℕ) (rest : List Elem) → length rest < 1 → IsFiled f n rest
+nothing_left f n [] l = tt
+nothing_left f n (y ∷ rest) l = absurd (omega arith)
+
+-- the first of what is left is filed, and then the others are
+pub first_filed : (f : List (ℕ × List ℕ)) (n : ℕ) (rest : List Elem) (x : Elem) (k : ℕ) → 1 ≤ length rest → x ≡ get_or rest 0 x
+    → k ≡ cond (length (take (length rest - 1) (drop 1 rest)) == 0) (ends_in x) (goes_on_from x)
+    → Member n (listed f k) → IsFiled f n (take (length rest - 1) (drop 1 rest)) → IsFiled f n rest
+first_filed f n [] x k l e q m h = absurd (omega arith)
+first_filed f n (z ∷ rest) x k l e q m h =
+    by rest (subst (λ (w : List Elem). k ≡ cond (length w == 0) (ends_in x) (goes_on_from x)) (tail z rest) q) (subst (λ (w : List Elem). IsFiled f n w) (tail z rest) h)
+  where
+    by : (w : List Elem) → k ≡ cond (length w == 0) (ends_in x) (goes_on_from x) → IsFiled f n w → IsFiled f n (z ∷ w)
+    by [] q h = subst (λ (j : ℕ). Member n (listed f j)) (q ∙ ap ends_in e) m
+    by (y ∷ w) q h =
+        let some : (length (y ∷ w) == 0) ≡ false = ne_eqb (length (y ∷ w)) 0 (λ z. absurd (omega (arith, z))) in
+        (subst (λ (j : ℕ). Member n (listed f j)) (q ∙ ap (λ b. cond b (ends_in x) (goes_on_from x)) some ∙ ap goes_on_from e) m, h)
+
 -- what was filed stays so where more is
 pub filed_kept : (f g : List (ℕ × List ℕ)) (clauses : List (List Elem)) → KeepsFiled f g → AreFiled f clauses → AreFiled g clauses
-filed_kept f g clauses k h n l e m = k (filed_under e) n (h n l e m)
+filed_kept f g clauses k h n l = is_filed_kept f g n (get_or clauses n []) k (h n l)
 
 -- one clause more is stored, and filed
 pub filed_more : (f : List (ℕ × List ℕ)) (clauses : List (List Elem)) (c : List Elem) → AreFiled f clauses → IsFiled f (length clauses) c → AreFiled f (clauses ++ c ∷ [])

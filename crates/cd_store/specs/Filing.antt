@@ -15,9 +15,18 @@ abbrev pub listed : List (ℕ × List ℕ) → ℕ → List ℕ
 listed [] q = []
 listed (p ∷ ps) q = cond (nat_eq q p.0) p.1 (listed ps q)
 
--- the clause's number is filed under each of its elements
+-- the list for clauses that end in the element, and that for clauses in which another follows it
+abbrev pub ends_in : Elem → ℕ
+ends_in e = filed_under e * 2
+
+abbrev pub goes_on_from : Elem → ℕ
+goes_on_from e = filed_under e * 2 + 1
+
+-- the clause's number is filed under each of its elements, and under the last one apart
 abbrev pub IsFiled : List (ℕ × List ℕ) → ℕ → List Elem → Type 0
-IsFiled f n c = (e : Elem) → Member e c → Member n (listed f (filed_under e))
+IsFiled f n [] = Unit {0}
+IsFiled f n (e ∷ []) = Member n (listed f (ends_in e))
+IsFiled f n (e ∷ (d ∷ es)) = Member n (listed f (goes_on_from e)) × IsFiled f n (d ∷ es)
 
 -- each stored clause is filed
 abbrev pub AreFiled : List (ℕ × List ℕ) → List (List Elem) → Type 0

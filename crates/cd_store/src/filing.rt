@@ -1,21 +1,23 @@
 //! The clauses that are stored, by what they have.
-ghost use Rattle.std.specs.Prelude.{◌≡◌, ℕ, [], OnOk};
+ghost use Rattle.std.specs.Prelude.{◌≡◌, ◌<◌, ℕ, [], cond, OnOk};
 ghost use Rattle.cd_base.specs.Lists.{Member};
-ghost use Rattle.cd_store.specs.Filing.{filed_under, listed, IsFiled, KeepsFiled};
+ghost use Rattle.cd_store.specs.Filing.{ends_in, filed_under, goes_on_from, listed, IsFiled, KeepsFiled};
 
 use cd_base::Memory;
 use cd_clause::{Clause, Elem};
 use indexmap::IndexMap;
+use smallvec::SmallVec;
 use std::alloc::Global;
 use std::marker::Model;
 
-/// The numbers of clauses by their elements.
+/// The numbers of clauses by their elements: two lists for each element, of the clauses that end in it, and of those in which another
+/// follows it. A subset of a clause ends in one of its elements, so that one short list for each is enough to find it.
 ///
 /// Elements are told apart by a number alone, which some of them may share: what is filed under an element is where a clause with it is
 /// found, and each clause that is found is still to be compared. A number stays filed when its clause dies.
 #[derive(Debug, Drop)]
 pub(crate) struct Filing {
-    by_element: IndexMap<u64, Vec<usize>>,
+    by_element: IndexMap<u64, SmallVec<usize, 2>>,
 }
 
 impl Model for Filing {
@@ -47,9 +49,11 @@ impl Filing {
         ensures filed { OnOk result (IsFiled self.new number clause.now) }
         ensures kept { KeepsFiled self.old self.new }
     {
-        let elems = clause.elems();
-        'elems: for i in 0..elems.len() {
-            self.file_under(alloc, number_of(&elems[i]), number)?;
+        let mut rest = clause.elems();
+        'elems: while let [elem, others @ ..] = rest {
+            let list = list_of(elem, others.is_empty());
+            self.file_under(alloc, list, number)?;
+            rest = others;
         }
         Ok(())
     }
@@ -76,25 +80,50 @@ impl Filing {
         ensures filed { OnOk result (Member number (listed self.new key)) }
         ensures kept { KeepsFiled self.old self.new }
     {
-        let list = vec![in alloc; number]?;
+        let mut list = SmallVec::new(alloc);
+        list.push(number)?;
         self.by_element.insert(key, list)?;
         Ok(())
     }
 
-    /// The numbers of clauses under this element, lent: those with it are among them. One look-up, and linear in the element's key.
-    pub(crate) fn under(&self, elem: &Elem) -> &[usize]
-        ensures { result.now ≡ listed self.now (filed_under elem.now) }
+    /// The numbers of clauses that end in this element, lent: they are among these. One look-up, and linear in the element's key.
+    pub(crate) fn ending_in(&self, elem: &Elem) -> &[usize]
+        ensures { result.now ≡ listed self.now (ends_in elem.now) }
     {
-        match self.by_element.get(&number_of(elem)) {
+        self.list(list_of(elem, true))
+    }
+
+    /// The numbers of clauses in which another element follows this one, lent: they are among these. One look-up, and linear in the
+    /// element's key.
+    pub(crate) fn going_on_from(&self, elem: &Elem) -> &[usize]
+        ensures { result.now ≡ listed self.now (goes_on_from elem.now) }
+    {
+        self.list(list_of(elem, false))
+    }
+
+    /// The list under this key, lent. One look-up.
+    fn list(&self, key: u64) -> &[usize]
+        ensures { result.now ≡ listed self.now key }
+    {
+        match self.by_element.get(&key) {
             Some(list) => list.as_slice(),
             None => &[],
         }
     }
 }
 
+/// The list for clauses that end in the element, or that for clauses in which another follows it. Linear in the element's key.
+fn list_of(elem: &Elem, is_last: bool) -> u64
+    ensures { result ≡ cond is_last (ends_in elem.now) (goes_on_from elem.now) }
+{
+    let number = number_of(elem) * 2;
+    if is_last { number } else { number + 1 }
+}
+
 /// The number under which an element is filed: that of an atom, or one above those, of the role and the key. Linear in the key.
 fn number_of(elem: &Elem) -> u64
-    ensures { result ≡ filed_under elem.now }
+    ensures number { result ≡ filed_under elem.now }
+    ensures range { result < 1_099_511_627_776 }
 {
     match elem {
         Elem::Plain(atom) => atom.number() as u64,

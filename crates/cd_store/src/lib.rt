@@ -3,9 +3,9 @@
 //! A clause that contains a live one says nothing new, so it isn't stored; a live one that contains the new clause is dead from then on,
 //! but stays stored under its number.
 //!
-//! Each number is filed under the elements of its clause. So the subsets of a new clause are sought among the clauses that share an element
-//! with it, and its supersets among those with its first, and a clause is compared with no other. Only the empty clause shares no element:
-//! where it is live nothing else is, so the first live clause is always compared.
+//! Each number is filed under the elements of its clause, and apart under the last of them. So the subsets of a new clause are sought among
+//! the clauses that end in one of its elements, and its supersets among those with its last, and a clause is compared with no other. Only
+//! the empty clause has no element: where it is live nothing else is, so the first live clause is always compared.
 #![tactic(auto)]
 
 mod filing;

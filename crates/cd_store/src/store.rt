@@ -3,7 +3,7 @@ ghost use Rattle.std.specs.Prelude.{◌≡◌, ◌<◌, ◌↔◌, ◌∷◌, �
 ghost use Rattle.std.specs.Bool.{OnFalse};
 ghost use Rattle.cd_base.specs.Lists.{Member, Within};
 ghost use Rattle.cd_clause.specs.declared.elem.Elem.{Elem};
-ghost use Rattle.cd_store.specs.Filing.{AreFiled, IsFiled};
+ghost use Rattle.cd_store.specs.Filing.{AreFiled};
 ghost use Rattle.cd_store.specs.Sift.{Sifts};
 ghost use Rattle.cd_store.specs.Store.{IsStore, IsOutcome, ContainsNoEarlier};
 
@@ -74,9 +74,9 @@ impl Store {
     }
 
     /// Stores the clause under the next number and makes it live, and makes its live supersets dead; or changes nothing, where a live
-    /// clause is a subset of it. A look-up for each element of the clause; for each stored clause that may share an element with it,
-    /// logarithmic in the live ones, and a walk over both where that one is live; and where a superset dies, a walk over the clause and
-    /// each live one.
+    /// clause is a subset of it. A look-up for each element of the clause; for each stored clause that may end in an
+    /// element of it or have its last one, logarithmic in the live ones, and a walk over both where that one is live; and where a
+    /// superset dies, a walk over the clause and each live one.
     pub fn add(&mut self, alloc: Global, clause: Clause) -> Result<Added, Memory>
         ensures ok { IfOk result (λ a. IsOutcome self.old clause self.new a) }
         ensures err { OnErr result (self.new ≡ self.old) }
@@ -100,8 +100,8 @@ impl Store {
     }
 }
 
-/// Makes the live supersets of the clause dead, and this number live. Costs what `candidates` and `has_superset` do, and what `sift` does
-/// only where a superset is live. After `Memory` nothing has changed.
+/// Makes the live supersets of the clause dead, and this number live. Costs what `has_live_superset` does, and what `sift` does only where
+/// a superset is live. After `Memory` nothing has changed.
 fn replace(
     alloc: Global,
     filing: &Filing,
@@ -115,8 +115,7 @@ fn replace(
     ensures ok { OnOk result ((after : List ℕ) × Sifts clauses.now clause.now live.old.items after × (live.new.items ≡ after ++ number ∷ [])) }
     ensures err { OnErr result (live.new.items ≡ live.old.items) }
 {
-    let numbers = candidates(filing, live.as_slice(), clause);
-    if has_superset(clauses, live.as_slice(), clause, numbers) {
+    if has_live_superset(filing, clauses, live.as_slice(), clause) {
         let mut after = sift(alloc, clauses, live.as_slice(), clause)?;
         after.push(number)?;
         *live = after;
@@ -126,13 +125,21 @@ fn replace(
     Ok(())
 }
 
-/// Numbers among which the live supersets are, lent: those under the first element, or all where there is none. One look-up.
-fn candidates<'a>(filing: &'a Filing, live: &'a [usize], clause: &Clause) -> &'a [usize]
-    ensures { (n : ℕ) (held : List Elem) → Member n live.now → IsFiled filing.now n held → Within clause.now held → Member n result.now }
+/// Whether one of the live numbers is that of a superset. One look-up twice; for each clause that may have the last element of this one,
+/// the cost of `has_superset`.
+fn has_live_superset(filing: &Filing, clauses: &[Clause], live: &[usize], clause: &Clause) -> bool
+    requires store { IsStore clauses.now live.now }
+    requires filed { AreFiled filing.now clauses.now }
+    ensures { OnFalse result ((n : ℕ) → Member n live.now → Within clause.now (slice_index_or clauses.now n []) → ⊥) }
 {
-    match clause.elems() {
-        [] => live,
-        [first, ..] => filing.under(first),
+    match clause.elems().last() {
+        None => has_superset(clauses, live, clause, live),
+        Some(last) => {
+            if has_superset(clauses, live, clause, filing.ending_in(last)) {
+                return true;
+            }
+            has_superset(clauses, live, clause, filing.going_on_from(last))
+        }
     }
 }
 

@@ -4,15 +4,15 @@ ghost use Rattle.cd_base.specs.Lists.{Member};
 ghost use Rattle.cd_clause.specs.declared.elem.Elem.{Elem};
 ghost use Rattle.cd_clause.specs.Derivations.{Redundant};
 ghost use Rattle.cd_clause.specs.Numbers.{picked};
-ghost use Rattle.cd_store.specs.Filing.{filed_under, listed, AreFiled};
+ghost use Rattle.cd_store.specs.Filing.{ends_in, listed, AreFiled};
 ghost use Rattle.cd_store.specs.Store.{IsStore, IsHeld, IsAscending};
 ghost use Rattle.cd_store.specs.Subsets.{HoldsSubset, IsAtMost, IsSubset};
 
 use crate::filing::Filing;
 use cd_clause::Clause;
 
-/// The least of the live numbers whose clause is a subset. A look-up for each element of the clause; and for each number filed under one,
-/// logarithmic in the live numbers, and a walk over both clauses where it is live.
+/// The least of the live numbers whose clause is a subset. A look-up for each element of the clause; and for each clause that may end in
+/// one, logarithmic in the live numbers, and a walk over both clauses where it is live.
 pub(crate) fn find_subset(
     filing: &Filing,
     clauses: &[Clause],
@@ -40,7 +40,7 @@ fn first_subset(clauses: &[Clause], live: &[usize], clause: &Clause) -> Option<u
     }
 }
 
-/// The least of what was found and what is filed under the elements of the clause, of live subsets alone. Costs as `find_subset`.
+/// The least of what was found and of the clauses that end in an element of the clause, of live subsets alone. Costs as `find_subset`.
 fn least_by_elems(
     filing: &Filing,
     clauses: &[Clause],
@@ -52,12 +52,12 @@ fn least_by_elems(
     requires holds { HoldsSubset clauses.now live.now clause.now found }
     ensures holds { HoldsSubset clauses.now live.now clause.now result }
     ensures lower { (n : ℕ) → IsAtMost found n → IsAtMost result n }
-    ensures covers { (e : Elem) (n : ℕ) → Member e clause.now → Member n (listed filing.now (filed_under e)) → IsSubset clauses.now live.now clause.now n → IsAtMost result n }
+    ensures covers { (e : Elem) (n : ℕ) → Member e clause.now → Member n (listed filing.now (ends_in e)) → IsSubset clauses.now live.now clause.now n → IsAtMost result n }
 {
     let mut least = found;
     let mut rest = clause.elems();
     'elems: while let [elem, others @ ..] = rest {
-        least = least_among(clauses, live, clause, least, filing.under(elem));
+        least = least_among(clauses, live, clause, least, filing.ending_in(elem));
         rest = others;
     }
     least

@@ -11,10 +11,10 @@ use Rattle.cd_context.proofs.notes.tell_atom.Goals as goal
 pub returns-then-is_empty : goal.returns-then-is_empty
 returns-then-is_empty c =
     let normal = c.args.index.now.normal in
-    let axioms = c.backs_of-axioms.result.now in
+    let axioms = c.backs-axioms.result.now in
     let empty : axioms ≡ [] = nil_from_length axioms (eqb-true (length axioms) 0 (sym c.is_empty.ensures ∙ c.if-is_empty.true)) in
     none (OfOne (IsUsefulBack normal c.args.key.now c.args.atom) c.args.links.now) (true ≡ true) c.args.out.now.items
-    (λ h note p. let u = use_found normal c.args.atom axioms p.0.role c.backs_of-axioms.ensures p.2.0 in subst (λ (l : List Triple). Member u.0 l) empty u.1)
+    (λ h note p. let u = use_found normal c.args.atom axioms p.0.role c.backs-axioms.ensures p.2.0 in subst (λ (l : List Triple). Member u.0 l) empty u.1)
 
 pub returns-in_err-tell_back : goal.returns-in_err-tell_back
 returns-in_err-tell_back c =
