@@ -1,13 +1,14 @@
 -- What is found beside an element of a premise.
-use Rattle.std.proofs.Common.{◌≡◌, ◌≢◌, ◌↔◌, ◌==◌, ℕ, zero, suc, ◌<◌, not, Bool, true, false, List, [], ◌∷◌, ◌++◌, length, get_or, refl, sym, ap, ◌∙◌, subst, inl, inr, arith, eq-eqb, eqb-true}
+use Rattle.std.proofs.Common.{◌≡◌, ◌≢◌, ◌↔◌, ◌==◌, ℕ, zero, suc, ◌<◌, ◌&&◌, not, Bool, true, false, List, [], ◌∷◌, ◌++◌, length, get_or, refl, sym, ap, ◌∙◌, subst, inl, inr, arith, eq-eqb, eqb-true}
 use Rattle.std.specs.Prelude.{nat_lt}
-use Rattle.std.proofs.lemmas.Bool.{and_from, cases_eq, cond-true, lt-ltb, ne_eqb, not_from_false}
+use Rattle.std.proofs.lemmas.Bool.{and_from, and_parts, cases_eq, cond-true, lt-ltb, ltb-true, ne_eqb, not_from_false}
 use Rattle.std.proofs.lemmas.List.{nil_from_length}
 use Rattle.cd_base.specs.Lists.{Member}
+use Rattle.cd_base.specs.Normal.{has_numbers_below}
 use Rattle.cd_base.specs.declared.normal.Conj.{Conj}
 use Rattle.cd_base.specs.declared.normal.Normal.{Normal}
 use Rattle.cd_base.specs.declared.normal.Triple.{Triple}
-use Rattle.cd_base.proofs.Members.{not_true, any_by_member, any_member, member_at, member_cases, member_get, member_left, member_right}
+use Rattle.cd_base.proofs.Members.{all_member, not_true, any_by_member, any_member, member_at, member_cases, member_left, member_right}
 use Rattle.cd_clause.specs.Elements.{Eligible}
 use Rattle.cd_clause.specs.declared.elem.Elem.{Elem}
 use Rattle.cd_clause.specs.declared.elem.Elem.TheVariants.{Plain}
@@ -16,29 +17,28 @@ use Rattle.cd_index.proofs.Filing.{atom_below}
 use Rattle.cd_rules.specs.LookUps.{AreAtAtom, HasAllWith, filed_at}
 use Rattle.cd_rules.specs.Steps.{IsWithoutOne}
 use Rattle.cd_rules.proofs.Found.{number_found}
-use Rattle.cd_context.specs.Filing.{Filed, atoms_of, under}
-use Rattle.cd_context.proofs.Listed.{listed_atom}
-use Rattle.cd_context.specs.Beside.{HasFiled, IsBesideLeft, IsBesideByOne, IsBesideByCon, IsBesideExist, IsBeside, IsBesideAt}
+use Rattle.cd_store.specs.LookUps.{HasElem}
+use Rattle.cd_context.specs.Beside.{HasAllAtoms, IsHad, IsBesideLeft, IsBesideByFiled, IsBesideByOne, IsBesideByCon, IsBesideByUniversal, IsBesideExist, IsBeside, IsBesideAt}
 
 -- ---- one left side
 
--- the number is filed under the atom at another place
-abbrev pub IsElsewhere : Filed → List ℕ → ℕ → ℕ → Type 0
-IsElsewhere f atoms place m = (j : ℕ) × (j < length atoms) × (j ≡ place → ⊥) × Member m (under f (get_or atoms j 0))
+-- the clause has the atom at another place
+abbrev pub IsElsewhere : List (List Elem) → List ℕ → ℕ → ℕ → Type 0
+IsElsewhere clauses atoms place m = (j : ℕ) × (j < length atoms) × (j ≡ place → ⊥) × HasElem clauses (Plain (get_or atoms j 0)) m
 
--- the number is filed under the atom at place j, which is another one
-abbrev pub OfPlace : Filed → List ℕ → ℕ → ℕ → ℕ → Type 0
-OfPlace f atoms place j m = (j ≡ place → ⊥) × Member m (under f (get_or atoms j 0))
+-- the clause has the atom at place j, which is another one
+abbrev pub OfPlace : List (List Elem) → List ℕ → ℕ → ℕ → ℕ → Type 0
+OfPlace clauses atoms place j m = (j ≡ place → ⊥) × HasElem clauses (Plain (get_or atoms j 0)) m
 
 -- the atom itself stands on a left side from which it is taken
 pub stands : (a : ℕ) (left taken : List ℕ) → IsWithoutOne a left taken → Member a left
 stands a left taken w = subst (Member a) (sym w.2) (member_right a w.0 (a ∷ w.1) (inl refl))
 
 -- the atoms of a left side are the one that is taken out, and the others
-pub all_filed : (f : Filed) (a : ℕ) (left taken : List ℕ) → HasFiled f a → IsWithoutOne a left taken → ((b : ℕ) → Member b taken → HasFiled f b) → (b : ℕ) → Member b left → HasFiled f b
-all_filed f a left taken own w h b m = elim (member_cases b w.0 (a ∷ w.1) (subst (Member b) w.2 m)) [
+pub all_had : (clauses : List (List Elem)) (a : ℕ) (left taken : List ℕ) → IsHad clauses (Plain a) → IsWithoutOne a left taken → ((b : ℕ) → Member b taken → IsHad clauses (Plain b)) → (b : ℕ) → Member b left → IsHad clauses (Plain b)
+all_had clauses a left taken own w h b m = elim (member_cases b w.0 (a ∷ w.1) (subst (Member b) w.2 m)) [
   | inl q ↦ h b (subst (Member b) (sym w.3) (member_left b w.0 w.1 q))
-  | inr q ↦ elim q [ inl e ↦ subst (HasFiled f) (sym e) own | inr z ↦ h b (subst (Member b) (sym w.3) (member_right b w.0 w.1 z)) ]
+  | inr q ↦ elim q [ inl e ↦ subst (λ (z : ℕ). IsHad clauses (Plain z)) (sym e) own | inr z ↦ h b (subst (Member b) (sym w.3) (member_right b w.0 w.1 z)) ]
 ]
 
 -- each of the others stands at a place beside that of the one that is taken out
@@ -54,8 +54,8 @@ own_place a [] after = (omega arith, refl)
 own_place a (c ∷ before) after = let w = own_place a before after in (omega (arith, w.0), w.1)
 
 -- whichever place of the atom is left out, the others have each of the other atoms
-pub elsewhere : (f : Filed) (a : ℕ) (left : List ℕ) (place m : ℕ) → place < length left → get_or left place 0 ≡ a → IsBesideLeft f a left m → IsElsewhere f left place m
-elsewhere f a left place m l e q =
+pub elsewhere : (clauses : List (List Elem)) (a : ℕ) (left : List ℕ) (place m : ℕ) → place < length left → get_or left place 0 ≡ a → IsBesideLeft clauses a left m → IsElsewhere clauses left place m
+elsewhere clauses a left place m l e q =
     let w = q.1 in
     let b = q.3.0 in
     let there = other_place a b w.0 w.1 (subst (Member b) w.3 q.3.1) in
@@ -70,23 +70,23 @@ elsewhere f a left place m l e q =
         n,
         lt_own,
         (λ z. there.2 (same ∙ sym z)),
-        subst (λ x. Member m (under f x)) (sym is ∙ ap (λ k. get_or left k 0) same ∙ e ∙ sym is_own) q.3.2,
+        subst (λ (x : ℕ). HasElem clauses (Plain x) m) (sym is ∙ ap (λ k. get_or left k 0) same ∙ e ∙ sym is_own) q.3.2,
       )
-      | inr differ ↦ (there.0, lt, differ, subst (λ x. Member m (under f x)) (sym is) q.3.2)
+      | inr differ ↦ (there.0, lt, differ, subst (λ (x : ℕ). HasElem clauses (Plain x) m) (sym is) q.3.2)
     ]
 
 -- ---- axioms by number
 
 -- by the axiom of the number at place i
-abbrev pub OfNumber : Normal → Filed → ℕ → List ℕ → ℕ → ℕ → Type 0
-OfNumber n f a numbers i m = IsBesideLeft f a (left_of n.n1 (get_or numbers i 0)) m
+abbrev pub OfNumber : Normal → List (List Elem) → ℕ → List ℕ → ℕ → ℕ → Type 0
+OfNumber n clauses a numbers i m = IsBesideLeft clauses a (left_of n.n1 (get_or numbers i 0)) m
 
-pub by_number : (n : Normal) (f : Filed) (a : ℕ) (numbers : List ℕ) (m : ℕ) → IsBesideByOne n f a numbers m → (i : ℕ) × (i < length numbers) × OfNumber n f a numbers i m
-by_number n f a numbers m q = let w = member_at q.0 numbers q.1 in (w.0, w.1, subst (λ k. IsBesideLeft f a (left_of n.n1 k) m) (sym (w.2 0)) q.2)
+pub by_number : (n : Normal) (clauses : List (List Elem)) (a : ℕ) (numbers : List ℕ) (m : ℕ) → IsBesideByOne n clauses a numbers m → (i : ℕ) × (i < length numbers) × OfNumber n clauses a numbers i m
+by_number n clauses a numbers m q = let w = member_at q.0 numbers q.1 in (w.0, w.1, subst (λ k. IsBesideLeft clauses a (left_of n.n1 k) m) (sym (w.2 0)) q.2)
 
 -- all axioms with the atom on the left are among these
-pub by_all : (n : Normal) (f : Filed) (a : ℕ) (numbers : List ℕ) → HasAllWith n.n1 a numbers → (m : ℕ) → IsBesideByCon n f a m → IsBesideByOne n f a numbers m
-by_all n f a numbers h m q = (q.0, h q.0 q.1 (stands a (left_of n.n1 q.0) q.2.0 q.2.1), q.2)
+pub by_all : (n : Normal) (clauses : List (List Elem)) (a : ℕ) (numbers : List ℕ) → HasAllWith n.n1 a numbers → (m : ℕ) → IsBesideByCon n clauses a m → IsBesideByOne n clauses a numbers m
+by_all n clauses a numbers h m q = (q.0, h q.0 q.1 (stands a (left_of n.n1 q.0) q.2.0 q.2.1), q.2)
 
 -- the left side of the axiom at a place
 pub left_read : (axioms : List Conj) (k : ℕ) (x : Conj) → k < length axioms → x ≡ get_or axioms k x → left_of axioms k ≡ x.left
@@ -95,8 +95,8 @@ left_read (y ∷ axioms) zero x l e = ap (λ (c : Conj). c.left) (sym e)
 left_read (y ∷ axioms) (suc k) x l e = left_read axioms k x (omega arith) e
 
 -- by an axiom that is filed under the atom at place i
-abbrev pub OfAtomAt : Normal → Filed → List (List ℕ) → ℕ → ℕ → ℕ → Type 0
-OfAtomAt n f filed a i m = IsBesideByOne n f a (filed_at filed n.atoms (get_or (atoms_of f) i 0)) m
+abbrev pub OfAtomAt : Normal → List (List Elem) → List (List ℕ) → List ℕ → ℕ → ℕ → ℕ → Type 0
+OfAtomAt n clauses filed atoms a i m = IsBesideByFiled n filed clauses a (get_or atoms i 0) m
 
 in_filed : (filed : List (List ℕ)) (number b k : ℕ) → b < number → Member k (get_or filed b []) → Member k (filed_at filed number b)
 in_filed filed number b k l m = subst (Member k) (sym (cond-true (nat_lt b number) (get_or filed b []) [] (lt-ltb b number l))) m
@@ -122,36 +122,46 @@ filed_there n filed filing k l some =
           (number_found n.n1 (λ (j : ℕ). is_filed n.n1 filing.chosen a j) k l (and_from (not (is_free n.n1 k)) (a == a) (not_from_false (is_free n.n1 k) not_free) (eq-eqb a a refl)))),
     )
 
--- an axiom that can fire is filed under an atom under which a clause is filed
-pub by_filed : (n : Normal) (f : Filed) (a : ℕ) (filed : List (List ℕ)) → (a < n.atoms → IsFiling n.n1 n.atoms filed) → HasFiled f a → (m : ℕ) → IsBesideByCon n f a m
-    → (i : ℕ) × (i < length (atoms_of f)) × OfAtomAt n f filed a i m
-by_filed n f a filed filing own m q =
+-- an axiom that can fire is filed under an atom of a stored clause
+pub by_filed : (n : Normal) (clauses : List (List Elem)) (atoms : List ℕ) (a : ℕ) (filed : List (List ℕ)) → (a < n.atoms → IsFiling n.n1 n.atoms filed) → HasAllAtoms clauses atoms → IsHad clauses (Plain a) → (m : ℕ) → IsBesideByCon n clauses a m
+    → (i : ℕ) × (i < length atoms) × OfAtomAt n clauses filed atoms a i m
+by_filed n clauses atoms a filed filing every own m q =
     let left = left_of n.n1 q.0 in
     let there : Member a left = stands a left q.2.0 q.2.1 in
     let g : IsFiling n.n1 n.atoms filed = filing (left_below n q.0 a there) in
     let at = filed_there n filed g q.0 q.1 (λ e. absurd (subst (Member a) e there)) in
     let chosen : ℕ = g.chosen q.0 in
-    let some : HasFiled f chosen = all_filed f a left q.2.0 own q.2.1 q.2.2 chosen at.0 in
-    let w = member_at chosen (atoms_of f) (listed_atom f.by_atom chosen some.0 some.1) in
-    (w.0, w.1, (q.0, subst (λ b. Member q.0 (filed_at filed n.atoms b)) (sym (w.2 0)) at.1, q.2))
+    let some : IsHad clauses (Plain chosen) = all_had clauses a left q.2.0 own q.2.1 q.2.2 chosen at.0 in
+    let w = member_at chosen atoms (every chosen some.0 some.1) in
+    let is : chosen ≡ get_or atoms w.0 0 = sym (w.2 0) in
+    (w.0, w.1, subst (λ b. IsBesideByFiled n filed clauses a b m) is (left_below n q.0 chosen at.0, (q.0, at.1, q.2)))
 
 -- ---- universals
 
--- filed under the atom of the universal at place i
-abbrev pub OfUniversal : List Triple → Filed → ℕ → ℕ → Type 0
-OfUniversal universals f i m = (t : Triple) × (get_or universals i t ≡ t) × Member m (under f t.atom)
+-- the clause has the atom of the universal at place i
+abbrev pub OfUniversal : List Triple → List (List Elem) → ℕ → ℕ → Type 0
+OfUniversal universals clauses i m = (t : Triple) × (get_or universals i t ≡ t) × HasElem clauses (Plain t.atom) m
 
-pub by_universal : (n : Normal) (f : Filed) (m : ℕ) → IsBesideExist n f m → (i : ℕ) × (i < length n.n4) × OfUniversal n.n4 f i m
-by_universal n f m q = let w = member_at q.0 n.n4 q.1 in (w.0, w.1, (q.0, w.2 q.0, q.2))
+pub by_universal : (n : Normal) (clauses : List (List Elem)) (m : ℕ) → IsBesideExist n clauses m → (i : ℕ) × (i < length n.n4) × OfUniversal n.n4 clauses i m
+by_universal n clauses m q = let w = member_at q.0 n.n4 q.1 in (w.0, w.1, (q.0, w.2 q.0, q.2))
 
--- filed under the atom at place i, which has a universal
-abbrev pub OfFiled : Normal → Filed → ℕ → ℕ → Type 0
-OfFiled n f i m = ((t : Triple) × Member t n.n4 × (t.atom ≡ get_or (atoms_of f) i 0)) × Member m (under f (get_or (atoms_of f) i 0))
+-- the clause has the atom at place i, which has a universal
+abbrev pub OfAtom : Normal → List (List Elem) → List ℕ → ℕ → ℕ → Type 0
+OfAtom n clauses atoms i m = IsBesideByUniversal n clauses (get_or atoms i 0) m
 
-pub by_atom : (n : Normal) (f : Filed) (m : ℕ) → IsBesideExist n f m → (i : ℕ) × (i < length (atoms_of f)) × OfFiled n f i m
-by_atom n f m q =
-    let w = member_at q.0.atom (atoms_of f) (listed_atom f.by_atom q.0.atom m q.2) in
-    (w.0, w.1, ((q.0, q.1, sym (w.2 0)), subst (λ a. Member m (under f a)) (sym (w.2 0)) q.2))
+pub by_atom : (n : Normal) (clauses : List (List Elem)) (atoms : List ℕ) → HasAllAtoms clauses atoms → (m : ℕ) → IsBesideExist n clauses m → (i : ℕ) × (i < length atoms) × OfAtom n clauses atoms i m
+by_atom n clauses atoms every m q =
+    let w = member_at q.0.atom atoms (every q.0.atom m q.2) in
+    let is : q.0.atom ≡ get_or atoms w.0 0 = sym (w.2 0) in
+    (w.0, w.1, subst (λ a. IsBesideByUniversal n clauses a m) is ((q.0, q.1, refl), q.2))
+
+-- the atom of a universal is in range
+pub universal_below : (n : Normal) (a : ℕ) → ((t : Triple) × Member t n.n4 × (t.atom ≡ a)) → a < n.atoms
+universal_below n a q =
+    let t : Triple = q.0 in
+    let h = all_member (has_numbers_below n.atoms n.roles) n.n4 n.n4_within t q.1 in
+    let b = and_parts (nat_lt t.atom n.atoms && nat_lt t.role n.roles) (nat_lt t.other n.atoms) h in
+    subst (λ (c : ℕ). c < n.atoms) q.2 (ltb-true t.atom n.atoms (and_parts (nat_lt t.atom n.atoms) (nat_lt t.role n.roles) b.0).0)
 
 -- a list is empty, or has something
 pub has_some : {X : Type 0} (xs ys : List X) (b : Bool) → xs ≡ ys → b ≡ (length xs == 0) → (not b ≡ true) ↔ ((x : X) × Member x ys)
@@ -180,20 +190,17 @@ universal_of triples found a b h e =
 -- ---- elements
 
 -- what is beside an eligible element is beside that of some place
-pub by_elem : (n : Normal) (f : Filed) (c : List Elem) (m : ℕ) → ((e : Elem) × Eligible n e c × IsBeside n f e m) → (i : ℕ) × (i < length c) × IsBesideAt n f c i m
-by_elem n f c m q =
+pub by_elem : (n : Normal) (clauses : List (List Elem)) (c : List Elem) (m : ℕ) → ((e : Elem) × Eligible n e c × IsBeside n clauses e m) → (i : ℕ) × (i < length c) × IsBesideAt n clauses c i m
+by_elem n clauses c m q =
     let w = member_at q.0 c q.1.isin in
     let at : get_or c w.0 (Plain 0) ≡ q.0 = w.2 (Plain 0) in
-    (w.0, w.1, (subst (λ e. Eligible n e c) (sym at) q.1, subst (λ e. IsBeside n f e m) (sym at) q.2))
+    (w.0, w.1, (subst (λ e. Eligible n e c) (sym at) q.1, subst (λ e. IsBeside n clauses e m) (sym at) q.2))
 
--- ---- live numbers
+-- ---- candidates
 
--- k is the number at place i, live, and not that of the premise
-abbrev pub OfLive : List ℕ → List ℕ → ℕ → ℕ → ℕ → Type 0
-OfLive numbers live premise i k = (k ≡ get_or numbers i 0) × Member k live × (k ≡ premise → ⊥)
+-- k is the number at place i, live, and another one, and doesn't wait
+abbrev pub OfTakenUp : List ℕ → List ℕ → List ℕ → ℕ → ℕ → ℕ → Type 0
+OfTakenUp candidates live waiting premise i k = (k ≡ get_or candidates i 0) × Member k live × (Member k waiting → ⊥) × (k ≡ premise → ⊥)
 
-pub all_live : (numbers live : List ℕ) (premise k : ℕ) → ((i : ℕ) × (i < length numbers) × OfLive numbers live premise i k) ↔ (Member k numbers × Member k live × (k ≡ premise → ⊥))
-all_live numbers live premise k = (
-  λ q. (subst (λ z. Member z numbers) (sym q.2.0) (member_get numbers q.0 0 q.1), q.2.1, q.2.2),
-  λ q. (let w = member_at k numbers q.0 in (w.0, w.1, (sym (w.2 0), q.1, q.2))),
-)
+pub all_taken_up : (candidates live waiting : List ℕ) (premise k : ℕ) → (Member k candidates × Member k live × (Member k waiting → ⊥) × (k ≡ premise → ⊥)) → (i : ℕ) × (i < length candidates) × OfTakenUp candidates live waiting premise i k
+all_taken_up candidates live waiting premise k q = let w = member_at k candidates q.0 in (w.0, w.1, (sym (w.2 0), q.1, q.2, q.3))

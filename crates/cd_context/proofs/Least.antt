@@ -1,5 +1,5 @@
 -- A heap of pairs, read as a list.
-use Rattle.std.proofs.Common.{◌≡◌, ℕ, ◌<◌, ◌≤◌, ◌⊎◌, inl, inr, false, List, [], ◌∷◌, map, sym, subst, arith, IsPermutation}
+use Rattle.std.proofs.Common.{◌≡◌, ℕ, ◌<◌, ◌≤◌, ◌⊎◌, inl, inr, Bool, true, false, cond, nat_eq, List, [], ◌∷◌, map, refl, sym, ◌∙◌, subst, arith, eqb-true, eq-eqb, IsPermutation}
 use Rattle.std.specs.List.{AllByRecursion}
 use Rattle.std.specs.Ordering.{is_lt, nat_cmp, ordering_then}
 use Rattle.std.specs.BinaryHeap.{IsUpperBound}
@@ -29,6 +29,22 @@ taken_from n old new p = record {
   after = λ m h. member_permuted (n ∷ new) old (IsPermutation-sym old (n ∷ new) p) m (inr h);
   count = let l = length_permutation old (n ∷ new) p in omega arith;
 }
+
+-- one number more is in a set, for which P holds too
+pub among_added : (P : ℕ → Type 0) (had has : ℕ → Bool) (k : ℕ) → ((q : ℕ) → has q ≡ cond (nat_eq k q) true (had q)) → P k → ((q : ℕ) → had q ≡ true → P q) → (q : ℕ) → has q ≡ true → P q
+among_added P had has k u p h q e = by (nat_eq k q) refl (sym (u q) ∙ e)
+  where
+    by : (b : Bool) → nat_eq k q ≡ b → cond b true (had q) ≡ true → P q
+    by true t z = subst P (eqb-true k q t) p
+    by false t z = h q z
+
+-- a number is no longer in a set, and P of another one is R of it
+pub among_removed : (P R : ℕ → Type 0) (had has : ℕ → Bool) (k : ℕ) → ((q : ℕ) → has q ≡ cond (nat_eq k q) false (had q)) → ((q : ℕ) → had q ≡ true → P q) → ((q : ℕ) → P q → (q ≡ k) ⊎ R q) → (q : ℕ) → has q ≡ true → R q
+among_removed P R had has k u h split q e = by (nat_eq k q) refl (sym (u q) ∙ e)
+  where
+    by : (b : Bool) → nat_eq k q ≡ b → cond b false (had q) ≡ true → R q
+    by true t z = absurd (false≢true z)
+    by false t z = elim (split q (h q z)) [ inl i ↦ absurd (false≢true (sym t ∙ eq-eqb k q (sym i))) | inr r ↦ r ]
 
 -- of two pairs of which the second is not less, the first is at most the second
 least_pair : (a b c d : ℕ) → is_lt (ordering_then (nat_cmp c a) (nat_cmp d b)) ≡ false → (a < c) ⊎ ((a ≡ c) × (b ≤ d))

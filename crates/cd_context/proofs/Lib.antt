@@ -2,12 +2,9 @@ pub mod Absorb
 pub mod Adds
 pub mod Appended
 pub mod Besides
-pub mod Filings
-pub mod Gaining
 pub mod Grown
 pub mod Justify
 pub mod Least
-pub mod Listed
 pub mod LiveClauses
 pub mod Narrowing
 pub mod Noting

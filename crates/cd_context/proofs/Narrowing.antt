@@ -1,6 +1,6 @@
 -- Where enough clauses stand beside a premise, each conclusion that uses it can be had from them.
-use Rattle.std.proofs.Common.{◌≡◌, ◌⊎◌, ℕ, List, [], ◌∷◌, get_or, refl, sym, ◌∙◌, subst, ap, inl, inr}
-use Rattle.cd_base.specs.Lists.{Member, Within}
+use Rattle.std.proofs.Common.{◌≡◌, ◌⊎◌, ◌<◌, ℕ, List, [], ◌∷◌, length, get_or, refl, sym, ◌∙◌, subst, ap, inl, inr}
+use Rattle.cd_base.specs.Lists.{Member}
 use Rattle.cd_base.specs.declared.normal.Normal.{Normal}
 use Rattle.cd_base.proofs.Members.{member_at}
 use Rattle.cd_clause.specs.declared.elem.Elem.{Elem}
@@ -14,41 +14,41 @@ use Rattle.cd_rules.specs.Facts.{IsPicked}
 use Rattle.cd_rules.proofs.Using.{from_clause_some, some_from_clause}
 use Rattle.cd_store.proofs.Picks.{picked_in, picked_from}
 use Rattle.cd_context.proofs.Besides.{left_read}
-use Rattle.cd_context.specs.Filing.{Filed, IsUnder, IsFiled, AreFiled, under}
-use Rattle.cd_context.specs.Beside.{HasFiled, IsBesideLeft, IsBeside, AreEnough}
+use Rattle.cd_store.specs.LookUps.{HasElem}
+use Rattle.cd_context.specs.Beside.{AreEnough, AreTakenUp, IsBeside, IsBesideLeft, IsHad}
 
-module _ (n : Normal) (f : Filed) (clauses : List (List Elem)) (premise : ℕ) (live found numbers : List ℕ)
-    (own : IsFiled f premise (get_or clauses premise []))
-    (gained : (m : ℕ) → ((e : Elem) × Eligible n e (get_or clauses premise []) × IsBeside n f e m) → Member m found)
-    (kept : (m : ℕ) → Member m found → Member m live → (m ≡ premise) ⊎ Member m numbers) where
-  module _ (taken : List ℕ) (alive : Within taken live) (filed : AreFiled f clauses taken) where
+module _ (n : Normal) (clauses : List (List Elem)) (premise : ℕ) (live waiting found numbers : List ℕ)
+    (range : (m : ℕ) → Member m live → m < length clauses) (own : premise < length clauses)
+    (gained : (m : ℕ) → ((e : Elem) × Eligible n e (get_or clauses premise []) × IsBeside n clauses e m) → Member m found)
+    (kept : (m : ℕ) → Member m found → Member m live → (Member m waiting → ⊥) → (m ≡ premise) ⊎ Member m numbers) where
+  module _ (taken : List ℕ) (up : AreTakenUp live waiting taken) where
     abbrev Wide : List Elem → Type 0
     Wide = IsPicked clauses (premise ∷ taken)
 
     abbrev Narrow : List Elem → Type 0
     Narrow = IsPicked clauses (premise ∷ numbers)
 
-    -- a clause with an element under which all that is filed was found
-    pick : (c : List Elem) (e : Elem) → Wide c → Member e c → ((m : ℕ) → IsUnder f e m → Member m found) → Narrow c
+    -- a clause with an element of which all clauses were found
+    pick : (c : List Elem) (e : Elem) → Wide c → Member e c → ((m : ℕ) → HasElem clauses e m → Member m found) → Narrow c
     pick c e (inl q) m h = inl q
     pick c e (inr q) m h =
         let w = picked_from clauses taken c q in
-        elim (kept w.0 (h w.0 (filed w.0 w.1 e (subst (λ d. Member e d) w.2 m))) (alive w.0 w.1)) [
+        elim (kept w.0 (h w.0 (range w.0 (up.0 w.0 w.1), subst (λ d. Member e d) w.2 m)) (up.0 w.0 w.1) (up.1 w.0 w.1)) [
           | inl s ↦ inl (w.2 ∙ ap (λ i. get_or clauses i []) s)
           | inr i ↦ inr (subst (λ d. IsPicked clauses numbers d) (sym w.2) (picked_in clauses numbers w.0 i))
         ]
 
-    -- what stands in a clause has something filed under it
-    some_filed : (c : List Elem) (a : ℕ) → Wide c → Member (Plain a) c → HasFiled f a
-    some_filed c a (inl q) m = (premise, own (Plain a) (subst (λ d. Member (Plain a) d) q m))
-    some_filed c a (inr q) m = let w = picked_from clauses taken c q in (w.0, filed w.0 w.1 (Plain a) (subst (λ d. Member (Plain a) d) w.2 m))
+    -- what stands in a clause is had
+    some_had : (c : List Elem) (a : ℕ) → Wide c → Member (Plain a) c → IsHad clauses (Plain a)
+    some_had c a (inl q) m = (premise, (own, subst (λ d. Member (Plain a) d) q m))
+    some_had c a (inr q) m = let w = picked_from clauses taken c q in (w.0, (range w.0 (up.0 w.0 w.1), subst (λ d. Member (Plain a) d) w.2 m))
 
-    rests_filed : (left : List ℕ) (m : List Elem) → Rests n Wide left m → (b : ℕ) → Member b left → HasFiled f b
-    rests_filed [] m r b i = absurd i
-    rests_filed (a ∷ left) m r b (inl e) = subst (HasFiled f) (sym e) (some_filed r.0 a r.1 r.2.isin)
-    rests_filed (a ∷ left) m r b (inr i) = rests_filed left r.3.tail r.3.rests b i
+    rests_had : (left : List ℕ) (m : List Elem) → Rests n Wide left m → (b : ℕ) → Member b left → IsHad clauses (Plain b)
+    rests_had [] m r b i = absurd i
+    rests_had (a ∷ left) m r b (inl e) = subst (λ (z : ℕ). IsHad clauses (Plain z)) (sym e) (some_had r.0 a r.1 r.2.isin)
+    rests_had (a ∷ left) m r b (inr i) = rests_had left r.3.tail r.3.rests b i
 
-    rests_narrow : (left : List ℕ) (m : List Elem) → ((b : ℕ) → Member b left → (k : ℕ) → Member k (under f b) → Member k found) → Rests n Wide left m → Rests n Narrow left m
+    rests_narrow : (left : List ℕ) (m : List Elem) → ((b : ℕ) → Member b left → (k : ℕ) → HasElem clauses (Plain b) k → Member k found) → Rests n Wide left m → Rests n Narrow left m
     rests_narrow [] m h r = r
     rests_narrow (a ∷ left) m h r = (
       r.0,
@@ -66,7 +66,7 @@ module _ (n : Normal) (f : Filed) (clauses : List (List Elem)) (premise : ℕ) (
           let taken_out = q.2 in
           let at = member_at x n.n1 q.1 in
           let is = left_read n.n1 at.0 x at.1 (sym (at.2 x)) in
-          let all = rests_filed taken_out.0 taken_out.2.0 taken_out.2.1 in
+          let all = rests_had taken_out.0 taken_out.2.0 taken_out.2.1 in
           inr (inr (inl (
             x,
             q.1,
@@ -76,7 +76,7 @@ module _ (n : Normal) (f : Filed) (clauses : List (List Elem)) (premise : ℕ) (
               (
                 taken_out.2.0,
                 rests_narrow taken_out.0 taken_out.2.0
-                    (λ b i k u. gained k (Plain a, el, inl (at.0, at.1, subst (λ l. IsBesideLeft f a l k) (sym is) (taken_out.0, taken_out.1, all, (b, i, u)))))
+                    (λ b i k u. gained k (Plain a, el, inl (at.0, at.1, subst (λ l. IsBesideLeft clauses a l k) (sym is) (taken_out.0, taken_out.1, all, (b, i, u)))))
                     taken_out.2.1,
                 taken_out.2.2,
               ),
@@ -89,7 +89,7 @@ module _ (n : Normal) (f : Filed) (clauses : List (List Elem)) (premise : ℕ) (
             q.0,
             q.1,
             q.2,
-            (c, pick c (Exist z.0 z.1) q.3.1 z.2.isin (λ m u. gained m (Plain a, el, inr ((q.0, q.1, q.2), u))), z),
+            (c, pick c (Exist z.0 z.1) q.3.1 z.2.isin (λ m u. gained m (Plain a, el, inr ((q.0, q.1, q.2), (z.0, z.1, u)))), z),
           )))
       narrow (Exist r k) el others (inl q) = inl q
       narrow (Exist r k) el others (inr (inl q)) = inr (inl q)
@@ -102,8 +102,8 @@ module _ (n : Normal) (f : Filed) (clauses : List (List Elem)) (premise : ℕ) (
             (b, pick b (Plain q.0.atom) q.3.1 q.3.2.isin (λ m u. gained m (Exist r k, el, (q.0, q.1, u))), q.3.2, q.3.3),
           ))
 
-  pub enough : AreEnough n f clauses premise live numbers
-  enough taken alive filed key backs deads d q =
+  pub enough : AreEnough n clauses live waiting premise numbers
+  enough taken up key backs deads d q =
       let s = from_clause_some n key clauses taken premise backs deads d q in
       some_from_clause n key clauses numbers premise backs deads d
-      (s.0, s.1, narrow taken alive filed backs deads key d s.0 s.1 (rest s.0 (get_or clauses premise [])) s.2)
+      (s.0, s.1, narrow taken up backs deads key d s.0 s.1 (rest s.0 (get_or clauses premise [])) s.2)

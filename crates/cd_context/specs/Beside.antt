@@ -3,62 +3,75 @@ use Rattle.std.specs.Prelude.{◌≡◌, ℕ, ◌<◌, ◌⊎◌, List, length, 
 use Rattle.cd_base.specs.Lists.{Member, Within}
 use Rattle.cd_base.specs.declared.normal.Normal.{Normal}
 use Rattle.cd_base.specs.declared.normal.Triple.{Triple}
+use Rattle.cd_clause.specs.Derivations.{Redundant}
 use Rattle.cd_clause.specs.Elements.{Eligible}
 use Rattle.cd_clause.specs.declared.elem.Elem.{Elem}
 use Rattle.cd_clause.specs.declared.elem.Elem.TheVariants.{Plain, Exist}
 use Rattle.cd_index.specs.Index.{left_of}
+use Rattle.cd_rules.specs.LookUps.{filed_at}
 use Rattle.cd_rules.specs.declared.facts.BackFact.{BackFact}
 use Rattle.cd_rules.specs.declared.facts.DeadFact.{DeadFact}
 use Rattle.cd_rules.specs.Steps.{IsWithoutOne}
 use Rattle.cd_rules.specs.Uses.{FromClause}
-use Rattle.cd_clause.specs.Derivations.{Redundant}
+use Rattle.cd_store.specs.LookUps.{HasElem, HasExistential}
 use Rattle.cd_context.specs.TakeUp.{Told}
-use Rattle.cd_context.specs.Filing.{Filed, AreFiled, under}
 
--- some number is filed under the atom
-abbrev pub HasFiled : Filed → ℕ → Type 0
-HasFiled f a = (m : ℕ) × Member m (under f a)
+-- some stored clause has the element
+abbrev pub IsHad : List (List Elem) → Elem → Type 0
+IsHad clauses e = (m : ℕ) × HasElem clauses e m
 
--- By Con with this left side, in which a clause is filed under each atom but one occurrence of `a`: the number is filed under one of these.
-abbrev pub IsBesideLeft : Filed → ℕ → List ℕ → ℕ → Type 0
-IsBesideLeft f a left m = (taken : List ℕ) × IsWithoutOne a left taken × ((b : ℕ) → Member b taken → HasFiled f b) × ((b : ℕ) × Member b taken × Member m (under f b))
+-- By Con with this left side, of which each atom but one occurrence of `a` stands in some clause: the clause has one of these.
+abbrev pub IsBesideLeft : List (List Elem) → ℕ → List ℕ → ℕ → Type 0
+IsBesideLeft clauses a left m = (taken : List ℕ) × IsWithoutOne a left taken × ((b : ℕ) → Member b taken → IsHad clauses (Plain b)) × ((b : ℕ) × Member b taken × HasElem clauses (Plain b) m)
 
 -- by Con with one of these axioms
-abbrev pub IsBesideByOne : Normal → Filed → ℕ → List ℕ → ℕ → Type 0
-IsBesideByOne n f a numbers m = (k : ℕ) × Member k numbers × IsBesideLeft f a (left_of n.n1 k) m
+abbrev pub IsBesideByOne : Normal → List (List Elem) → ℕ → List ℕ → ℕ → Type 0
+IsBesideByOne n clauses a numbers m = (k : ℕ) × Member k numbers × IsBesideLeft clauses a (left_of n.n1 k) m
 
 -- by Con with any axiom
-abbrev pub IsBesideByCon : Normal → Filed → ℕ → ℕ → Type 0
-IsBesideByCon n f a m = (k : ℕ) × (k < length n.n1) × IsBesideLeft f a (left_of n.n1 k) m
+abbrev pub IsBesideByCon : Normal → List (List Elem) → ℕ → ℕ → Type 0
+IsBesideByCon n clauses a m = (k : ℕ) × (k < length n.n1) × IsBesideLeft clauses a (left_of n.n1 k) m
+
+-- by Con with one of the axioms that are filed under an atom
+abbrev pub IsBesideByFiled : Normal → List (List ℕ) → List (List Elem) → ℕ → ℕ → ℕ → Type 0
+IsBesideByFiled n filed clauses a at m = (at < n.atoms) × IsBesideByOne n clauses a (filed_at filed n.atoms at) m
 
 -- by All, where the premise has an atom with an axiom: the clause has an existential
-abbrev pub IsBesideUniversal : Normal → Filed → ℕ → ℕ → Type 0
-IsBesideUniversal n f a m = ((t : Triple) × Member t n.n4 × (t.atom ≡ a)) × Member m f.with_exist
+abbrev pub IsBesideUniversal : Normal → List (List Elem) → ℕ → ℕ → Type 0
+IsBesideUniversal n clauses a m = ((t : Triple) × Member t n.n4 × (t.atom ≡ a)) × HasExistential clauses m
 
 -- by All, where the premise has an existential: the clause has an atom with an axiom
-abbrev pub IsBesideExist : Normal → Filed → ℕ → Type 0
-IsBesideExist n f m = (t : Triple) × Member t n.n4 × Member m (under f t.atom)
+abbrev pub IsBesideExist : Normal → List (List Elem) → ℕ → Type 0
+IsBesideExist n clauses m = (t : Triple) × Member t n.n4 × HasElem clauses (Plain t.atom) m
 
--- the number can be of use beside this element of a premise
-abbrev pub IsBeside : Normal → Filed → Elem → ℕ → Type 0
-IsBeside n f (Plain a) m = IsBesideByCon n f a m ⊎ IsBesideUniversal n f a m
-IsBeside n f (Exist r k) m = IsBesideExist n f m
+-- by All, where this atom has an axiom
+abbrev pub IsBesideByUniversal : Normal → List (List Elem) → ℕ → ℕ → Type 0
+IsBesideByUniversal n clauses a m = ((t : Triple) × Member t n.n4 × (t.atom ≡ a)) × HasElem clauses (Plain a) m
 
--- the element at place i of the premise is eligible, and the number can be of use beside it
-abbrev pub IsBesideAt : Normal → Filed → List Elem → ℕ → ℕ → Type 0
-IsBesideAt n f c i m = Eligible n (slice_index_or c i (Plain 0)) c × IsBeside n f (slice_index_or c i (Plain 0)) m
+-- each atom of the stored clauses has its number among these
+abbrev pub HasAllAtoms : List (List Elem) → List ℕ → Type 0
+HasAllAtoms clauses numbers = (a n : ℕ) → HasElem clauses (Plain a) n → Member a numbers
 
--- `new` has what `old` has, and each number of which P holds
-abbrev pub Gains : (ℕ → Type 0) → List ℕ → List ℕ → Type 0
-Gains P old new = (m : ℕ) → Member m old ⊎ P m → Member m new
+-- the clause can be of use beside this element of a premise
+abbrev pub IsBeside : Normal → List (List Elem) → Elem → ℕ → Type 0
+IsBeside n clauses (Plain a) m = IsBesideByCon n clauses a m ⊎ IsBesideUniversal n clauses a m
+IsBeside n clauses (Exist r k) m = IsBesideExist n clauses m
 
--- each conclusion from the premise and live clauses that are filed is redundant among these
-abbrev pub HasConcluded : Normal → List ℕ → Told → Filed → List (List Elem) → List ℕ → ℕ → List (List Elem) → Type 0
-HasConcluded n key told f clauses live premise out =
-    (taken : List ℕ) → Within taken live → AreFiled f clauses taken → (d : List Elem) → FromClause n key clauses taken premise told.backs told.deads d → Redundant out d
+-- the element at place i of the premise is eligible, and the clause can be of use beside it
+abbrev pub IsBesideAt : Normal → List (List Elem) → List Elem → ℕ → ℕ → Type 0
+IsBesideAt n clauses c i m = Eligible n (slice_index_or c i (Plain 0)) c × IsBeside n clauses (slice_index_or c i (Plain 0)) m
 
--- what can be concluded with the premise and live clauses that are filed can be concluded with it and these clauses
-abbrev pub AreEnough : Normal → Filed → List (List Elem) → ℕ → List ℕ → List ℕ → Type 0
-AreEnough n f clauses premise live numbers =
-    (taken : List ℕ) → Within taken live → AreFiled f clauses taken → (key : List ℕ) (backs : List BackFact) (deads : List DeadFact) (d : List Elem)
+-- live numbers that don't wait
+abbrev pub AreTakenUp : List ℕ → List ℕ → List ℕ → Type 0
+AreTakenUp live waiting taken = Within taken live × ((k : ℕ) → Member k taken → Member k waiting → ⊥)
+
+-- each conclusion from the premise and clauses that were taken up is redundant among these
+abbrev pub HasConcluded : Normal → List ℕ → Told → List (List Elem) → List ℕ → List ℕ → ℕ → List (List Elem) → Type 0
+HasConcluded n key told clauses live waiting premise out =
+    (taken : List ℕ) → AreTakenUp live waiting taken → (d : List Elem) → FromClause n key clauses taken premise told.backs told.deads d → Redundant out d
+
+-- what can be concluded with the premise and clauses that were taken up can be concluded with it and these clauses
+abbrev pub AreEnough : Normal → List (List Elem) → List ℕ → List ℕ → ℕ → List ℕ → Type 0
+AreEnough n clauses live waiting premise numbers =
+    (taken : List ℕ) → AreTakenUp live waiting taken → (key : List ℕ) (backs : List BackFact) (deads : List DeadFact) (d : List Elem)
     → FromClause n key clauses taken premise backs deads d → FromClause n key clauses numbers premise backs deads d

@@ -4,7 +4,6 @@ pub mod Calls
 pub mod FactLists
 pub mod FactWrites
 pub mod Facts
-pub mod Filing
 pub mod Justified
 pub mod Noting
 pub mod Once

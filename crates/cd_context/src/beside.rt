@@ -1,54 +1,54 @@
 //! Which clauses can be of use beside a premise.
 //!
 //! A context may have thousands of live clauses, and most premises can do with few of them. So no premise is tried with all: for each atom
-//! of the premise the axioms with that atom on the left say under which atoms the others are filed, and for All it is the clauses with an
-//! existential, or with an atom that has an axiom.
-ghost use Rattle.std.specs.Prelude.{◌≡◌, ◌⊎◌, ◌<◌, ◌↔◌, ℕ, [], length, slice_index_or, true, IfOk, OnOk, MatchOption};
+//! of the premise the axioms with that atom on the left say which atoms the others have, and for All it is the clauses with an
+//! existential, or with an atom that has an axiom. The store finds the clauses by what they have.
+ghost use Rattle.std.specs.Prelude.{◌≡◌, ◌<◌, ◌↔◌, ℕ, length, slice_index_or, true, IfOk, IfSome, OnOk, MatchOption};
 ghost use Rattle.cd_base.specs.Lists.{Member};
 ghost use Rattle.cd_base.specs.declared.normal.Triple.{Triple};
 ghost use Rattle.cd_clause.specs.Elements.{Eligible};
 ghost use Rattle.cd_clause.specs.declared.elem.Elem.{Elem};
+ghost use Rattle.cd_clause.specs.declared.elem.Elem.TheVariants.{Plain};
 ghost use Rattle.cd_index.specs.Index.{IsFiling};
-ghost use Rattle.cd_rules.specs.LookUps.{AreNumbers};
-ghost use Rattle.cd_context.specs.Beside.{AreEnough, Gains, HasFiled, IsBeside, IsBesideAt, IsBesideByCon, IsBesideByOne, IsBesideExist, IsBesideLeft, IsBesideUniversal};
-ghost use Rattle.cd_context.specs.Filing.{under, IsFiled, IsUnder};
-ghost use Rattle.cd_store.specs.Store.{IsAscending};
+ghost use Rattle.cd_rules.specs.LookUps.{AreNumbers, HasAllWith};
+ghost use Rattle.cd_context.specs.Beside.{AreEnough, HasAllAtoms, IsBeside, IsBesideAt, IsBesideByCon, IsBesideByFiled, IsBesideByOne, IsBesideByUniversal, IsBesideExist, IsBesideLeft, IsBesideUniversal, IsHad};
+ghost use Rattle.cd_context.specs.Waits.{numbers};
+ghost use Rattle.cd_store.specs.LookUps.{Gains, HasElem};
 
-use crate::filing::Filing;
-use crate::live::is_among;
+use crate::waiting::Waiting;
 use cd_base::{Atom, Memory};
 use cd_clause::{Clause, Elem, eligible};
 use cd_index::Index;
 use cd_rules::look_ups::{alls, filed, with_left};
+use cd_store::Store;
 use std::alloc::Global;
 
-/// Where there are no more than so many axioms with an atom on the left, no other way to find them is tried.
+/// Where there are no more than so many axioms, no other way to find those that are of use is tried.
 const FEW: usize = 8;
 
-/// Numbers of live clauses, among them each that can be of use beside the premise, where that is filed. Its own is left out.
+/// Numbers of live clauses, among them each that can be of use beside the premise and doesn't wait. The premise's own is left out.
 ///
-/// The cost is that of a look at each axiom that is tried for an eligible atom of the premise, of all that is filed for those that can fire or for
-/// All, `n log n` in these numbers, and logarithmic in the live clauses for each of them. For an existential it is also linear in the
-/// universals or in the atoms that are filed, whichever are fewer.
+/// The cost is that of a look at each axiom that is tried for an eligible atom of the premise, of all clauses with an atom of those that
+/// can fire or with one for All, `n log n` in these, and logarithmic in the live clauses for each of them. For an existential it is also
+/// linear in the universals or in the elements of the store, whichever are fewer.
 pub(crate) fn beside(
     alloc: Global,
     index: &Index,
-    filing: &Filing,
-    clauses: &[Clause],
+    store: &Store,
+    waiting: &Waiting,
     premise: usize,
-    live: &[usize],
 ) -> Result<Vec<usize>, Memory>
-    requires premise { premise < length clauses.now }
-    requires filed { IsFiled filing.now premise (slice_index_or clauses.now premise []) }
-    requires ascends { IsAscending live.now }
-    ensures live { IfOk result (λ numbers. (k : ℕ) → Member k numbers.items → Member k live.now) }
-    ensures enough { IfOk result (λ numbers. AreEnough index.now.normal filing.now clauses.now premise live.now numbers.items) }
+    requires { premise < length store.now.0 }
+    ensures live { IfOk result (λ others. (k : ℕ) → Member k others.items → Member k store.now.1) }
+    ensures enough { IfOk result (λ others. AreEnough index.now.normal store.now.0 store.now.1 (numbers waiting.now) premise others.items) }
 {
     let mut found = Vec::new(alloc);
-    push_beside(index, filing, premise, &clauses[premise], &mut found)?;
+    push_beside(alloc, index, store, &store.clauses()[premise], &mut found)?;
     put_in_order(&mut found);
-    let numbers = live_among(alloc, found.as_slice(), premise, live)?;
-    Ok(numbers)
+    // what every store keeps is said where its live numbers are lent
+    let _live = store.live();
+    let others = taken_up(alloc, found.as_slice(), store, waiting, premise)?;
+    Ok(others)
 }
 
 /// Puts the numbers in order, each once. `n log n`.
@@ -59,82 +59,99 @@ fn put_in_order(numbers: &mut Vec<usize>)
     numbers.dedup();
 }
 
-/// The live ones of these numbers, without that of the premise. Logarithmic in the live clauses for each.
-fn live_among(
+/// Those of the candidates that are live and don't wait, without the premise. Logarithmic in the live clauses for each.
+fn taken_up(
     alloc: Global,
-    numbers: &[usize],
+    candidates: &[usize],
+    store: &Store,
+    waiting: &Waiting,
     premise: usize,
-    live: &[usize],
 ) -> Result<Vec<usize>, Memory>
-    requires { IsAscending live.now }
-    ensures { IfOk result (λ found. (k : ℕ) → Member k found.items ↔ (Member k numbers.now × Member k live.now × (k ≡ premise → ⊥))) }
+    ensures live { IfOk result (λ others. (k : ℕ) → Member k others.items → Member k store.now.1) }
+    ensures every { IfOk result (λ others. (k : ℕ) → Member k candidates.now → Member k store.now.1 → (Member k (numbers waiting.now) → ⊥) → (k ≡ premise → ⊥) → Member k others.items) }
 {
-    let mut found = Vec::new(alloc);
-    'numbers: for i in 0..numbers.len() {
-        let number = numbers[i];
-        if number != premise && is_among(live, number) {
-            found.push(number)?;
+    let mut others = Vec::new(alloc);
+    'candidates: for i in 0..candidates.len() {
+        let number = candidates[i];
+        if is_taken_up(store, waiting, premise, number) {
+            others.push(number)?;
         }
     }
-    Ok(found)
+    Ok(others)
 }
 
-/// Appends what is beside the eligible elements of the clause of this number, which is filed.
+/// Whether the clause of this number was taken up before the premise: it is live, another one, and doesn't wait. Logarithmic in the live
+/// clauses.
+fn is_taken_up(store: &Store, waiting: &Waiting, premise: usize, number: usize) -> bool
+    ensures live { result ≡ true → Member number store.now.1 }
+    ensures every { Member number store.now.1 → (Member number (numbers waiting.now) → ⊥) → (number ≡ premise → ⊥) → result ≡ true }
+{
+    if number == premise {
+        return false;
+    }
+    if waiting.has(number) {
+        return false;
+    }
+    store.is_live(number)
+}
+
+/// Appends what is beside the eligible elements of the clause, which is stored.
 fn push_beside(
+    alloc: Global,
     index: &Index,
-    filing: &Filing,
-    number: usize,
+    store: &Store,
     clause: &Clause,
     found: &mut Vec<usize>,
 ) -> Result<(), Memory>
-    requires { IsFiled filing.now number clause.now }
-    ensures { OnOk result (Gains (λ m. (e : Elem) × Eligible index.now.normal e clause.now × IsBeside index.now.normal filing.now e m) found.old.items found.new.items) }
+    requires { (e : Elem) → Member e clause.now → IsHad store.now.0 e }
+    ensures { OnOk result (Gains (λ m. (e : Elem) × Eligible index.now.normal e clause.now × IsBeside index.now.normal store.now.0 e m) found.old.items found.new.items) }
 {
     let count = clause.elems().len();
     'places: for i in 0..count {
-        push_beside_at(index, filing, number, clause, i, found)?;
+        push_beside_at(alloc, index, store, clause, i, found)?;
     }
     Ok(())
 }
 
-/// Appends what is beside the element at place `i` of the clause of this number, which is filed, where that element is eligible: the rules
-/// work on no other.
+/// Appends what is beside the element at place `i` of the clause, which is stored, where that element is eligible: the rules work on no
+/// other.
 fn push_beside_at(
+    alloc: Global,
     index: &Index,
-    filing: &Filing,
-    number: usize,
+    store: &Store,
     clause: &Clause,
     i: usize,
     found: &mut Vec<usize>,
 ) -> Result<(), Memory>
     requires place { i < length clause.now }
-    requires filed { IsFiled filing.now number clause.now }
-    ensures { OnOk result (Gains (IsBesideAt index.now.normal filing.now clause.now i) found.old.items found.new.items) }
+    requires had { (e : Elem) → Member e clause.now → IsHad store.now.0 e }
+    ensures { OnOk result (Gains (IsBesideAt index.now.normal store.now.0 clause.now i) found.old.items found.new.items) }
 {
     if eligible(clause, i, index.normal()) {
-        push_beside_elem(index, filing, &clause.elems()[i], found)?;
+        push_beside_elem(alloc, index, store, &clause.elems()[i], found)?;
     }
     Ok(())
 }
 
-/// Appends what is beside an element under which a number is filed.
+/// Appends what is beside an element that a stored clause has.
 fn push_beside_elem(
+    alloc: Global,
     index: &Index,
-    filing: &Filing,
+    store: &Store,
     elem: &Elem,
     found: &mut Vec<usize>,
 ) -> Result<(), Memory>
-    requires { (m : ℕ) × IsUnder filing.now elem.now m }
-    ensures { OnOk result (Gains (IsBeside index.now.normal filing.now elem.now) found.old.items found.new.items) }
+    requires { IsHad store.now.0 elem.now }
+    ensures { OnOk result (Gains (IsBeside index.now.normal store.now.0 elem.now) found.old.items found.new.items) }
 {
     match elem {
         Elem::Plain(atom) => {
-            push_by_con(index, filing, *atom, found)?;
-            push_universal(index, filing, *atom, found)?;
+            push_by_con(alloc, index, store, *atom, found)?;
+            push_universal(index, store, *atom, found)?;
             Ok(())
         }
         Elem::Exist(_, _) => {
-            push_exist(index, filing, found)?;
+            push_exist(alloc, index, store, found)?;
             Ok(())
         }
     }
@@ -143,62 +160,106 @@ fn push_beside_elem(
 /// Appends what is beside the atom by All. Constant time where no axiom has the atom.
 fn push_universal(
     index: &Index,
-    filing: &Filing,
+    store: &Store,
     atom: Atom,
     found: &mut Vec<usize>,
 ) -> Result<(), Memory>
-    ensures { OnOk result (Gains (IsBesideUniversal index.now.normal filing.now atom) found.old.items found.new.items) }
+    ensures { OnOk result (Gains (IsBesideUniversal index.now.normal store.now.0 atom) found.old.items found.new.items) }
 {
     if has_universal(index, atom) {
-        found.extend_from_slice(filing.with_exist())?;
+        store.push_with_existential(found)?;
     }
     Ok(())
 }
 
-/// Appends what is beside an existential by All. Linear in the universals or in the atoms that are filed, whichever are fewer.
-fn push_exist(index: &Index, filing: &Filing, found: &mut Vec<usize>) -> Result<(), Memory>
-    ensures { OnOk result (Gains (IsBesideExist index.now.normal filing.now) found.old.items found.new.items) }
+/// Numbers, those of all atoms of the store among them, where a walk over them may cost less than one over so many axioms. Linear in them.
+fn numbers_in_place_of(
+    alloc: Global,
+    store: &Store,
+    axioms: usize,
+) -> Result<Option<Vec<u64>>, Memory>
+    ensures { IfOk result (λ some. IfSome some (λ atoms. HasAllAtoms store.now.0 atoms.items)) }
 {
-    if index.normal().n4.items().len() <= filing.count() {
-        push_by_universals(index, filing, found)
+    if axioms <= FEW {
+        return Ok(None);
+    }
+    store.atom_numbers(alloc, axioms)
+}
+
+/// The atom of this number, if it is in range. Constant time.
+fn atom_of(index: &Index, number: u64) -> Option<Atom>
+    ensures { MatchOption result (number < index.now.normal.atoms → ⊥) (λ atom. (atom ≡ number) × (number < index.now.normal.atoms)) }
+{
+    if number < index.normal().atoms as u64 {
+        Some(Atom(number as u32))
     } else {
-        push_by_atoms(index, filing, found)
+        None
     }
 }
 
+/// Appends what is beside an existential by All. Linear in the universals or in the elements of the store, whichever are fewer.
+fn push_exist(
+    alloc: Global,
+    index: &Index,
+    store: &Store,
+    found: &mut Vec<usize>,
+) -> Result<(), Memory>
+    ensures { OnOk result (Gains (IsBesideExist index.now.normal store.now.0) found.old.items found.new.items) }
+{
+    let universals = index.normal().n4.items().len();
+    match numbers_in_place_of(alloc, store, universals)? {
+        Some(atoms) => {
+            push_by_atoms(index, store, atoms.as_slice(), found)?;
+        }
+        None => {
+            push_by_universals(index, store, found)?;
+        }
+    }
+    Ok(())
+}
+
 /// The same by a walk over the universals.
-fn push_by_universals(index: &Index, filing: &Filing, found: &mut Vec<usize>) -> Result<(), Memory>
-    ensures { OnOk result (Gains (IsBesideExist index.now.normal filing.now) found.old.items found.new.items) }
+fn push_by_universals(index: &Index, store: &Store, found: &mut Vec<usize>) -> Result<(), Memory>
+    ensures { OnOk result (Gains (IsBesideExist index.now.normal store.now.0) found.old.items found.new.items) }
 {
     let universals = index.normal().n4.items();
     'universals: for i in 0..universals.len() {
         let universal = &universals[i];
-        push_filed(filing, universal.atom, found)?;
+        store.push_with_atom(universal.atom, found)?;
     }
     Ok(())
 }
 
-/// The same by a walk over the atoms that are filed.
-fn push_by_atoms(index: &Index, filing: &Filing, found: &mut Vec<usize>) -> Result<(), Memory>
-    ensures { OnOk result (Gains (IsBesideExist index.now.normal filing.now) found.old.items found.new.items) }
-{
-    'atoms: for i in 0..filing.count() {
-        push_if_universal(index, filing, filing.atom_at(i), found)?;
-    }
-    Ok(())
-}
-
-/// Appends what is filed under the atom, where a universal has it.
-fn push_if_universal(
+/// The same by a walk over the numbers of the store's atoms.
+fn push_by_atoms(
     index: &Index,
-    filing: &Filing,
-    atom: Atom,
+    store: &Store,
+    atoms: &[u64],
     found: &mut Vec<usize>,
 ) -> Result<(), Memory>
-    ensures { OnOk result (Gains (λ m. ((t : Triple) × Member t index.now.normal.n4 × (t.atom ≡ atom)) × Member m (under filing.now atom)) found.old.items found.new.items) }
+    requires { HasAllAtoms store.now.0 atoms.now }
+    ensures { OnOk result (Gains (IsBesideExist index.now.normal store.now.0) found.old.items found.new.items) }
 {
+    'atoms: for i in 0..atoms.len() {
+        push_if_universal(index, store, atoms[i], found)?;
+    }
+    Ok(())
+}
+
+/// Appends the clauses with the atom of this number, where a universal has it.
+fn push_if_universal(
+    index: &Index,
+    store: &Store,
+    number: u64,
+    found: &mut Vec<usize>,
+) -> Result<(), Memory>
+    ensures { OnOk result (Gains (IsBesideByUniversal index.now.normal store.now.0 number) found.old.items found.new.items) }
+{
+    let Some(atom) = atom_of(index, number) else {
+        return Ok(());
+    };
     if has_universal(index, atom) {
-        push_filed(filing, atom, found)?;
+        store.push_with_atom(atom, found)?;
     }
     Ok(())
 }
@@ -210,51 +271,61 @@ fn has_universal(index: &Index, atom: Atom) -> bool
     !alls(index, atom).is_empty()
 }
 
-/// Appends what is filed under the atom. One look-up, and linear in what is appended.
-fn push_filed(filing: &Filing, atom: Atom, found: &mut Vec<usize>) -> Result<(), Memory>
-    ensures { OnOk result (Gains (λ m. Member m (under filing.now atom)) found.old.items found.new.items) }
-{
-    found.extend_from_slice(filing.under(atom))?;
-    Ok(())
-}
-
-/// Whether a number is filed under the atom. One look-up.
-fn has_filed(filing: &Filing, atom: Atom) -> bool
-    ensures { (result ≡ true) ↔ HasFiled filing.now atom }
-{
-    !filing.under(atom).is_empty()
-}
-
 /// Appends what is beside the atom by Con.
 ///
-/// A look at each axiom with the atom on the left; or, where these are more than a few, more than the atoms that have a number, and more
-/// than the axioms that the index files under those atoms, at each of the latter.
+/// A look at each axiom with the atom on the left; or, where these are more than a few, more than the elements of the store, and more
+/// than the axioms that the index files under its atoms, at each of the latter.
 fn push_by_con(
+    alloc: Global,
     index: &Index,
-    filing: &Filing,
+    store: &Store,
     atom: Atom,
     found: &mut Vec<usize>,
 ) -> Result<(), Memory>
-    requires { HasFiled filing.now atom }
-    ensures { OnOk result (Gains (IsBesideByCon index.now.normal filing.now atom) found.old.items found.new.items) }
+    requires { IsHad store.now.0 (Plain atom) }
+    ensures { OnOk result (Gains (IsBesideByCon index.now.normal store.now.0 atom) found.old.items found.new.items) }
 {
     let all = with_left(index, atom);
     let own = filed(index, atom);
-    let least = FEW.max(filing.count().max(own.len()));
-    if least < all.len() && are_fewer(index, filing, all.len()) {
-        push_by_filed(index, filing, atom, found)
-    } else {
-        push_by_axioms(index, filing, all, atom, found)?;
-        Ok(())
+    if own.len() < all.len() {
+        push_by_fewer(alloc, index, store, all, atom, found)?;
+        return Ok(());
     }
+    push_by_axioms(index, store, all, atom, found)?;
+    Ok(())
 }
 
-/// Whether the index files fewer axioms than `limit` under the atoms of the filing. Linear in the atoms. It decides on a cost alone, so
-/// nothing is said of it.
-fn are_fewer(index: &Index, filing: &Filing, limit: usize) -> bool {
+/// The same, where the index files fewer of these axioms under the atom itself.
+fn push_by_fewer(
+    alloc: Global,
+    index: &Index,
+    store: &Store,
+    all: &[usize],
+    atom: Atom,
+    found: &mut Vec<usize>,
+) -> Result<(), Memory>
+    requires numbers { AreNumbers index.now.normal.n1 all.now }
+    requires every { HasAllWith index.now.normal.n1 atom all.now }
+    requires filing { atom < index.now.normal.atoms → IsFiling index.now.normal.n1 index.now.normal.atoms index.now.filed }
+    requires had { IsHad store.now.0 (Plain atom) }
+    ensures { OnOk result (Gains (IsBesideByCon index.now.normal store.now.0 atom) found.old.items found.new.items) }
+{
+    if let Some(atoms) = numbers_in_place_of(alloc, store, all.len())? {
+        if are_fewer(index, atoms.as_slice(), all.len()) {
+            push_by_filed(index, store, atoms.as_slice(), atom, found)?;
+            return Ok(());
+        }
+    }
+    push_by_axioms(index, store, all, atom, found)?;
+    Ok(())
+}
+
+/// Whether the index files fewer axioms than `limit` under these atoms. Linear in the atoms. It decides on a cost alone, so nothing is
+/// said of it.
+fn are_fewer(index: &Index, atoms: &[u64], limit: usize) -> bool {
     let mut left = limit;
-    for i in 0..filing.count() {
-        let count = filed(index, filing.atom_at(i)).len();
+    for number in atoms {
+        let count = count_filed(index, *number);
         if left <= count {
             return false;
         }
@@ -263,62 +334,89 @@ fn are_fewer(index: &Index, filing: &Filing, limit: usize) -> bool {
     true
 }
 
-/// Appends what is beside the atom by the axioms that the index files under the atoms of the filing. A look at each of these axioms.
+/// How many axioms the index files under the atom of this number. Constant time. Nothing is said of it, as of `are_fewer`.
+fn count_filed(index: &Index, number: u64) -> usize {
+    match atom_of(index, number) {
+        Some(atom) => filed(index, atom).len(),
+        None => 0,
+    }
+}
+
+/// Appends what is beside the atom by the axioms that the index files under the atoms of the store. A look at each of these axioms.
 fn push_by_filed(
     index: &Index,
-    filing: &Filing,
+    store: &Store,
+    atoms: &[u64],
     atom: Atom,
     found: &mut Vec<usize>,
 ) -> Result<(), Memory>
-    requires filed { HasFiled filing.now atom }
+    requires all { HasAllAtoms store.now.0 atoms.now }
     requires filing { atom < index.now.normal.atoms → IsFiling index.now.normal.n1 index.now.normal.atoms index.now.filed }
-    ensures { OnOk result (Gains (IsBesideByCon index.now.normal filing.now atom) found.old.items found.new.items) }
+    requires had { IsHad store.now.0 (Plain atom) }
+    ensures { OnOk result (Gains (IsBesideByCon index.now.normal store.now.0 atom) found.old.items found.new.items) }
 {
-    'atoms: for i in 0..filing.count() {
-        let numbers = filed(index, filing.atom_at(i));
-        push_by_axioms(index, filing, numbers, atom, found)?;
+    'atoms: for i in 0..atoms.len() {
+        push_by_number(index, store, atoms[i], atom, found)?;
     }
+    Ok(())
+}
+
+/// Appends what is beside the atom by the axioms that the index files under the atom of this number. A look at each of them.
+fn push_by_number(
+    index: &Index,
+    store: &Store,
+    number: u64,
+    atom: Atom,
+    found: &mut Vec<usize>,
+) -> Result<(), Memory>
+    requires { IsHad store.now.0 (Plain atom) }
+    ensures { OnOk result (Gains (IsBesideByFiled index.now.normal index.now.filed store.now.0 atom number) found.old.items found.new.items) }
+{
+    let Some(at) = atom_of(index, number) else {
+        return Ok(());
+    };
+    push_by_axioms(index, store, filed(index, at), atom, found)?;
     Ok(())
 }
 
 /// Appends what is beside the atom by the axioms of these numbers. A look at each.
 fn push_by_axioms(
     index: &Index,
-    filing: &Filing,
-    numbers: &[usize],
+    store: &Store,
+    axioms: &[usize],
     atom: Atom,
     found: &mut Vec<usize>,
 ) -> Result<(), Memory>
-    requires numbers { AreNumbers index.now.normal.n1 numbers.now }
-    requires filed { HasFiled filing.now atom }
-    ensures { OnOk result (Gains (IsBesideByOne index.now.normal filing.now atom numbers.now) found.old.items found.new.items) }
+    requires numbers { AreNumbers index.now.normal.n1 axioms.now }
+    requires had { IsHad store.now.0 (Plain atom) }
+    ensures { OnOk result (Gains (IsBesideByOne index.now.normal store.now.0 atom axioms.now) found.old.items found.new.items) }
 {
-    let axioms = index.normal().n1.items();
-    'numbers: for i in 0..numbers.len() {
-        let conj = &axioms[numbers[i]];
-        push_by_left(filing, conj.left.items(), atom, found)?;
+    let all = index.normal().n1.items();
+    'axioms: for i in 0..axioms.len() {
+        let conj = &all[axioms[i]];
+        push_by_left(store, conj.left.items(), atom, found)?;
     }
     Ok(())
 }
 
-/// Appends what is beside the atom by Con with this left side. A look-up for each atom there, and what is filed under the others where the
+/// Appends what is beside the atom by Con with this left side. A look-up for each atom there, and the clauses with the others where the
 /// axiom can fire.
 fn push_by_left(
-    filing: &Filing,
+    store: &Store,
     left: &[Atom],
     atom: Atom,
     found: &mut Vec<usize>,
 ) -> Result<(), Memory>
-    requires { HasFiled filing.now atom }
-    ensures { OnOk result (Gains (IsBesideLeft filing.now atom left.now) found.old.items found.new.items) }
+    requires { IsHad store.now.0 (Plain atom) }
+    ensures { OnOk result (Gains (IsBesideLeft store.now.0 atom left.now) found.old.items found.new.items) }
 {
     let Some(place) = place_of(left, atom) else {
         return Ok(());
     };
-    if !are_all_filed(filing, left) {
+    if !may_all_stand(store, left) {
         return Ok(());
     }
-    push_others(filing, left, place, found)?;
+    push_others(store, left, place, found)?;
     Ok(())
 }
 
@@ -335,30 +433,30 @@ fn place_of(atoms: &[Atom], atom: Atom) -> Option<usize>
     None
 }
 
-/// Whether a number is filed under each of the atoms. A look-up for each.
-fn are_all_filed(filing: &Filing, atoms: &[Atom]) -> bool
-    ensures { ((b : ℕ) → Member b atoms.now → HasFiled filing.now b) → result ≡ true }
+/// Whether each of the atoms may stand in a stored clause: true wherever each does. Two look-ups for each.
+fn may_all_stand(store: &Store, atoms: &[Atom]) -> bool
+    ensures { ((b : ℕ) → Member b atoms.now → IsHad store.now.0 (Plain b)) → result ≡ true }
 {
     'atoms: for i in 0..atoms.len() {
-        if !has_filed(filing, atoms[i]) {
+        if !store.may_have(atoms[i]) {
             return false;
         }
     }
     true
 }
 
-/// Appends what is filed under the atoms at the other places. A look-up for each.
+/// Appends the clauses with the atoms at the other places. Two look-ups for each.
 fn push_others(
-    filing: &Filing,
+    store: &Store,
     atoms: &[Atom],
     place: usize,
     found: &mut Vec<usize>,
 ) -> Result<(), Memory>
-    ensures { OnOk result (Gains (λ m. (j : ℕ) × (j < length atoms.now) × (j ≡ place → ⊥) × Member m (under filing.now (slice_index_or atoms.now j 0))) found.old.items found.new.items) }
+    ensures { OnOk result (Gains (λ m. (j : ℕ) × (j < length atoms.now) × (j ≡ place → ⊥) × HasElem store.now.0 (Plain (slice_index_or atoms.now j 0)) m) found.old.items found.new.items) }
 {
     'atoms: for i in 0..atoms.len() {
         if i != place {
-            push_filed(filing, atoms[i], found)?;
+            store.push_with_atom(atoms[i], found)?;
         }
     }
     Ok(())

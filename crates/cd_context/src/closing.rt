@@ -1,18 +1,15 @@
 //! Closing a context under its rules.
-ghost use Rattle.std.specs.Prelude.{◌<◌, ℕ, [], List, length, slice_index_or, IfOk, OnOk};
+ghost use Rattle.std.specs.Prelude.{◌<◌, ℕ, [], List, length, IfOk, OnOk};
 ghost use Rattle.cd_base.specs.Lists.{Member};
 ghost use Rattle.cd_clause.specs.declared.elem.Elem.{Elem};
 ghost use Rattle.cd_rules.specs.Facts.{ConcludesFrom};
-ghost use Rattle.cd_store.specs.Store.{IsAscending, IsStore};
+ghost use Rattle.cd_store.specs.Store.{IsStore};
 ghost use Rattle.cd_context.specs.Beside.{HasConcluded};
-ghost use Rattle.cd_context.specs.Filing.{AreFiled, AreFiledBut, IsFiled, KeepsFiled};
 ghost use Rattle.cd_context.specs.Justified.{IsInTurn};
 ghost use Rattle.cd_context.specs.TakeUp.{ClosedUpTo, IsWorking, TakesUpMore, Stays, Follows};
 ghost use Rattle.cd_context.specs.Waits.{numbers};
 
 use crate::beside::beside;
-use crate::filing::Filing;
-use crate::live::is_among;
 use crate::waiting::Waiting;
 use cd_base::{Key, Memory};
 use cd_clause::Clause;
@@ -24,7 +21,7 @@ use std::alloc::Global;
 /// Adds the conclusions to a store that is closed but for them, and closes it again.
 ///
 /// The cost is that of `close`, and of adding each conclusion. After `Memory` the store has all that it had, each of its clauses is
-/// concluded from those before it, and some may not be filed.
+/// concluded from those before it.
 pub(crate) fn close_with(
     alloc: Global,
     index: &Index,
@@ -32,21 +29,18 @@ pub(crate) fn close_with(
     backs: &[BackFact],
     deads: &[DeadFact],
     store: &mut Store,
-    filing: &mut Filing,
     conclusions: Vec<Clause>,
 ) -> Result<(), Memory>
     requires closed { ClosedUpTo index.now.normal key.now (record { backs = backs.now; deads = deads.now }) store.old.0 store.old.1 [] conclusions.items }
     requires in_turn { IsInTurn index.now.normal key.now backs.now deads.now store.old.0 }
     requires concluded { (d : List Elem) → Member d conclusions.items → ConcludesFrom index.now.normal key.now (λ c. Member c store.old.0) backs.now deads.now d }
-    requires filed { AreFiled filing.old store.old.0 store.old.1 }
-    ensures filed { OnOk result (AreFiled filing.new store.new.0 store.new.1) }
     ensures closed { OnOk result (ClosedUpTo index.now.normal key.now (record { backs = backs.now; deads = deads.now }) store.new.0 store.new.1 [] []) }
     ensures in_turn { IsInTurn index.now.normal key.now backs.now deads.now store.new.0 }
     ensures store { IsStore store.new.0 store.new.1 }
     ensures follows { Follows store.old.0 store.new.0 }
     ensures survivors { (k : ℕ) → Member k store.new.1 → k < length store.old.0 → Member k store.old.1 }
 {
-    let done = add_and_close(alloc, index, key, backs, deads, store, filing, conclusions);
+    let done = add_and_close(alloc, index, key, backs, deads, store, conclusions);
     // what every store keeps is said where its live numbers are lent
     let _live = store.live();
     done
@@ -60,14 +54,11 @@ fn add_and_close(
     backs: &[BackFact],
     deads: &[DeadFact],
     store: &mut Store,
-    filing: &mut Filing,
     conclusions: Vec<Clause>,
 ) -> Result<(), Memory>
     requires closed { ClosedUpTo index.now.normal key.now (record { backs = backs.now; deads = deads.now }) store.old.0 store.old.1 [] conclusions.items }
     requires in_turn { IsInTurn index.now.normal key.now backs.now deads.now store.old.0 }
     requires concluded { (d : List Elem) → Member d conclusions.items → ConcludesFrom index.now.normal key.now (λ c. Member c store.old.0) backs.now deads.now d }
-    requires filed { AreFiled filing.old store.old.0 store.old.1 }
-    ensures filed { OnOk result (AreFiled filing.new store.new.0 store.new.1) }
     ensures closed { OnOk result (ClosedUpTo index.now.normal key.now (record { backs = backs.now; deads = deads.now }) store.new.0 store.new.1 [] []) }
     ensures in_turn { IsInTurn index.now.normal key.now backs.now deads.now store.new.0 }
     ensures follows { Follows store.old.0 store.new.0 }
@@ -86,7 +77,7 @@ fn add_and_close(
         &mut waiting,
         conclusions,
     )?;
-    close(alloc, index, key, backs, deads, store, filing, &mut waiting)
+    close(alloc, index, key, backs, deads, store, &mut waiting)
 }
 
 /// Adds the conclusions. Those that are new wait. The cost is that of adding each to the store.
@@ -132,13 +123,10 @@ fn close(
     backs: &[BackFact],
     deads: &[DeadFact],
     store: &mut Store,
-    filing: &mut Filing,
     waiting: &mut Waiting,
 ) -> Result<(), Memory>
     requires closed { ClosedUpTo index.now.normal key.now (record { backs = backs.now; deads = deads.now }) store.old.0 store.old.1 (numbers waiting.old) [] }
     requires working { IsWorking index.now.normal key.now (record { backs = backs.now; deads = deads.now }) store.old.0 (numbers waiting.old) }
-    requires filed { AreFiledBut filing.old store.old.0 store.old.1 (numbers waiting.old) }
-    ensures filed { OnOk result (AreFiled filing.new store.new.0 store.new.1) }
     ensures closed { OnOk result (ClosedUpTo index.now.normal key.now (record { backs = backs.now; deads = deads.now }) store.new.0 store.new.1 [] []) }
     ensures in_turn { IsInTurn index.now.normal key.now backs.now deads.now store.new.0 }
     ensures follows { Follows store.old.0 store.new.0 }
@@ -147,20 +135,16 @@ fn close(
     'turns: while let Some(number) = waiting.take() {
         // the number of clauses fits, and so bounds the turns: each has one more taken up
         let _stored = store.clauses().len();
-        if !is_among(store.live(), number) {
+        if !store.is_live(number) {
             continue;
         }
-        let clauses = store.clauses();
-        let live = store.live();
-        let conclusions = conclude(
-            alloc, index, key, backs, deads, clauses, live, filing, number,
-        )?;
+        let conclusions = conclude(alloc, index, key, backs, deads, store, waiting, number)?;
         add_all(alloc, index, key, backs, deads, store, waiting, conclusions)?;
     }
     Ok(())
 }
 
-/// Files the clause of this number, and concludes what its rules give with the other live clauses that are filed.
+/// Concludes what the rules give for the clause of this number, which is live, with the other live clauses that don't wait.
 ///
 /// The cost is that of finding those that can be of use beside it, and of the rules with these.
 fn conclude(
@@ -169,27 +153,23 @@ fn conclude(
     key: &Key,
     backs: &[BackFact],
     deads: &[DeadFact],
-    clauses: &[Clause],
-    live: &[usize],
-    filing: &mut Filing,
+    store: &Store,
+    waiting: &Waiting,
     number: usize,
 ) -> Result<Vec<Clause>, Memory>
-    requires in_range { (k : ℕ) → Member k live.now → k < length clauses.now }
-    requires ascends { IsAscending live.now }
-    requires number { number < length clauses.now }
-    ensures kept { KeepsFiled filing.old filing.new }
-    ensures filed { OnOk result (IsFiled filing.new number (slice_index_or clauses.now number [])) }
-    ensures only { IfOk result (λ conclusions. (d : List Elem) → Member d conclusions.items → ConcludesFrom index.now.normal key.now (λ c. Member c clauses.now) backs.now deads.now d) }
-    ensures every { IfOk result (λ conclusions. HasConcluded index.now.normal key.now (record { backs = backs.now; deads = deads.now }) filing.new clauses.now live.now number conclusions.items) }
+    requires { Member number store.now.1 }
+    ensures only { IfOk result (λ conclusions. (d : List Elem) → Member d conclusions.items → ConcludesFrom index.now.normal key.now (λ c. Member c store.now.0) backs.now deads.now d) }
+    ensures every { IfOk result (λ conclusions. HasConcluded index.now.normal key.now (record { backs = backs.now; deads = deads.now }) store.now.0 store.now.1 (numbers waiting.now) number conclusions.items) }
 {
-    filing.file(alloc, number, &clauses[number])?;
-    let others = beside(alloc, index, filing, clauses, number, live)?;
+    // what every store keeps is said where its live numbers are lent
+    let _live = store.live();
+    let others = beside(alloc, index, store, waiting, number)?;
     let mut conclusions = Vec::new(alloc);
     on_clause(
         alloc,
         index,
         key,
-        clauses,
+        store.clauses(),
         others.as_slice(),
         number,
         backs,

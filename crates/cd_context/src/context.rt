@@ -1,5 +1,5 @@
 //! A context.
-ghost use Rattle.std.specs.Prelude.{◌≡◌, ◌↔◌, ◌<◌, ◌⊎◌, ℕ, [], List, true, false, IsOk, IfOk, OnOk, OnErr};
+ghost use Rattle.std.specs.Prelude.{◌≡◌, ◌↔◌, ◌<◌, ◌⊎◌, ℕ, [], true, false, IsOk, IfOk, OnOk, OnErr};
 ghost use Rattle.std.specs.List.Sorted.{IsStrictlyIncreasing};
 ghost use Rattle.cd_base.specs.Lists.{Member};
 ghost use Rattle.cd_clause.specs.Derivations.{Reachable};
@@ -15,7 +15,6 @@ use crate::closing::close_with;
 use crate::distinct::append_distinct;
 use crate::fact_lists::FactLists;
 use crate::facts::{Fact, LinkFact, Note};
-use crate::filing::Filing;
 use crate::live::{has_empty, has_single, singles};
 use crate::owing::{owe_link, owe_since};
 use crate::sending::send_since;
@@ -32,21 +31,14 @@ pub struct Context {
     key: Key,
     store: Store,
     facts: FactLists,
-    filing: Filing,
-    // Whether no call has ended for want of memory, so that each live clause was taken up, and is filed.
-    whole: bool,
 }
 
 impl Model for Context {
-    ghost use Rattle.std.specs.Prelude.{◌≡◌, true};
-    ghost use Rattle.cd_context.specs.Filing.{AreFiled};
     ghost use Rattle.cd_context.specs.State.{State};
 
     ghost Value = { State };
 
     ghost view = { λ c. record { key = c.key; clauses = c.store.0; live = c.store.1; links = c.facts.links; backs = c.facts.backs; deads = c.facts.deads } };
-
-    ghost invariant = { λ c. c.whole ≡ true → AreFiled c.filing c.store.0 c.store.1 };
 }
 
 impl Context {
@@ -74,33 +66,17 @@ impl Context {
         on_key(alloc, index, &key, &mut conclusions)?;
         let backs = facts.backs();
         let deads = facts.deads();
-        let mut filing = Filing::new(alloc);
-        close_with(
-            alloc,
-            index,
-            &key,
-            backs,
-            deads,
-            &mut store,
-            &mut filing,
-            conclusions,
-        )?;
+        close_with(alloc, index, &key, backs, deads, &mut store, conclusions)?;
         let links = facts.links();
         send_since(alloc, index, &key, &store, links, 0, out)?;
-        Ok(Context {
-            key,
-            store,
-            facts,
-            filing,
-            whole: true,
-        })
+        Ok(Context { key, store, facts })
     }
 
     /// Takes a fact. The context is closed again, and what it came to owe is appended to `out`. A fact that it has changes nothing.
     ///
     /// One look-up, and for a fact that is new a walk over the live clauses, and the cost of `begin` for each clause that is taken up. After
-    /// `Memory` nothing was appended, and the context keeps all that it had, with the fact or without it. From then on it takes no fact that
-    /// it doesn't have: it answers `Memory`, and nothing changes.
+    /// `Memory` nothing was appended, and the context keeps all that it had, with the fact or without it; it may not be closed, and then no
+    /// further fact may come.
     pub fn absorb(
         &mut self,
         alloc: Global,
@@ -136,8 +112,7 @@ impl Context {
 
     /// Takes a link that it didn't have, and appends what it owes there.
     ///
-    /// Linear in the live clauses. After `Memory` nothing was appended, and it has the link or not. `Memory` too where an earlier call ended
-    /// so.
+    /// Linear in the live clauses. After `Memory` nothing was appended, and it has the link or not.
     fn absorb_link(
         &mut self,
         alloc: Global,
@@ -153,23 +128,17 @@ impl Context {
         ensures ok { OnOk result (Absorbs index.now.normal self.old (Link link.key link.role) self.new out.old.items out.new.items) }
         ensures err { OnErr result (out.new.items ≡ out.old.items) }
     {
-        if !self.whole {
-            return Err(Memory);
-        }
-        // The mark is taken away while the call works, so that it is missing where `?` returns.
-        self.whole = false;
         let mut notes = Vec::new(alloc);
         owe_link(alloc, index, &self.key, &self.store, &link, &mut notes)?;
         self.facts.add_link(link)?;
         out.append(&mut notes)?;
-        self.whole = true;
         Ok(())
     }
 
     /// Takes a back that it didn't have, closes again, and appends what it came to owe.
     ///
     /// Linear in the live clauses, with the cost of `begin` for each clause that is taken up. After `Memory` nothing was appended, and it has
-    /// the back or not. `Memory` too where an earlier call ended so.
+    /// the back or not.
     fn absorb_back(
         &mut self,
         alloc: Global,
@@ -185,11 +154,6 @@ impl Context {
         ensures ok { OnOk result (Absorbs index.now.normal self.old (Back back.role back.key back.atom) self.new out.old.items out.new.items) }
         ensures err { OnErr result (out.new.items ≡ out.old.items) }
     {
-        if !self.whole {
-            return Err(Memory);
-        }
-        // The mark is taken away while the call works, so that it is missing where `?` returns.
-        self.whole = false;
         let stored = self.store.clauses().len();
         let mut conclusions = Vec::new(alloc);
         let clauses = self.store.clauses();
@@ -205,19 +169,17 @@ impl Context {
             backs,
             deads,
             &mut self.store,
-            &mut self.filing,
             conclusions,
         )?;
         let links = self.facts.links();
         send_since(alloc, index, &self.key, &self.store, links, stored, out)?;
-        self.whole = true;
         Ok(())
     }
 
     /// Takes a dead that it didn't have, closes again, and appends what it came to owe.
     ///
     /// Linear in the live clauses, with the cost of `begin` for each clause that is taken up. After `Memory` nothing was appended, and it has
-    /// the dead or not. `Memory` too where an earlier call ended so.
+    /// the dead or not.
     fn absorb_dead(
         &mut self,
         alloc: Global,
@@ -233,11 +195,6 @@ impl Context {
         ensures ok { OnOk result (Absorbs index.now.normal self.old (Dead dead.role dead.key) self.new out.old.items out.new.items) }
         ensures err { OnErr result (out.new.items ≡ out.old.items) }
     {
-        if !self.whole {
-            return Err(Memory);
-        }
-        // The mark is taken away while the call works, so that it is missing where `?` returns.
-        self.whole = false;
         let stored = self.store.clauses().len();
         let mut conclusions = Vec::new(alloc);
         let clauses = self.store.clauses();
@@ -253,12 +210,10 @@ impl Context {
             backs,
             deads,
             &mut self.store,
-            &mut self.filing,
             conclusions,
         )?;
         let links = self.facts.links();
         send_since(alloc, index, &self.key, &self.store, links, stored, out)?;
-        self.whole = true;
         Ok(())
     }
 
@@ -311,7 +266,8 @@ impl Context {
         singles(alloc, clauses, live)
     }
 
-    /// Appends all that it owes to others, each once. Linear in the live clauses times the links, with a look-up each.
+    /// Appends all that it owes to others, each once. Linear in the live clauses times the links, with a look-up each. After `Memory` some
+    /// of it may be there.
     pub fn list_owed(&self, alloc: Global, index: &Index, out: &mut Vec<Note>) -> Result<(), Memory>
         ensures { ListsOwed index.now.normal (IsOk result) self.now out.old.items out.new.items }
     {

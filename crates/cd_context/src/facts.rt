@@ -1,7 +1,5 @@
 //! What contexts tell each other.
-ghost use Rattle.std.specs.Prelude.{◌++◌, map};
 ghost use Rattle.std.specs.Cmp.Rules.{hashing};
-ghost use Rattle.std.specs.Hash as fed;
 ghost use Rattle.std.proofs.Common.{rules};
 ghost use Rattle.cd_context.specs.FactWrites.{fact_writes};
 
@@ -60,16 +58,5 @@ impl Hash for Fact {
                 key.hash(state);
             }
         }
-    }
-}
-
-impl Hash for LinkFact {
-    ghost hash_input = { λ fact. map (fed.le_bytes 8) fact.key ++ fed.u32 fact.role };
-
-    ghost respects_eq = { Prim.search (hashing, rules) };
-
-    fn hash<H: Hasher>(&self, state: &mut H) {
-        self.key.hash(state);
-        self.role.0.hash(state);
     }
 }

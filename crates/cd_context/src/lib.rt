@@ -2,8 +2,8 @@
 //!
 //! A context is begun with its key and takes facts from other contexts, one at a time. Each time it takes up the clauses that wait, the
 //! shortest first, until every conclusion is redundant (`closing`), and then says what it came to owe (`owing`). A clause that is taken up
-//! is filed by what it has (`filing`), so that a later one meets only those that can be of use beside it (`beside`): each pair meets once.
-//! A context never looks at another one: what it is told of them is its facts.
+//! meets only those of the earlier ones that can be of use beside it, which the store finds by what they have (`beside`): each pair meets
+//! once. A context never looks at another one: what it is told of them is its facts.
 #![tactic(auto)]
 
 ghost use Rattle.cd_context.specs.Justified.{StoredDerived, OwedJustified};
@@ -16,7 +16,6 @@ mod context;
 mod distinct;
 mod fact_lists;
 mod facts;
-mod filing;
 mod live;
 mod notes;
 mod owing;

@@ -6,7 +6,7 @@ ghost use Rattle.cd_clause.specs.Numbers.{picked};
 ghost use Rattle.cd_clause.specs.declared.elem.Elem.TheVariants.{Plain};
 ghost use Rattle.cd_context.specs.Calls.{IsSingle};
 ghost use Rattle.cd_context.specs.Only.{is_only};
-ghost use Rattle.cd_store.specs.Store.{IsAscending, IsStore};
+ghost use Rattle.cd_store.specs.Store.{IsStore};
 
 use cd_base::{Atom, Memory};
 use cd_clause::{Clause, Elem};
@@ -122,12 +122,4 @@ fn atoms_of(alloc: Global, numbers: &[u32]) -> Result<Vec<Atom>, Memory>
         rest = others;
     }
     Ok(atoms)
-}
-
-/// Whether the number is one of these, which ascend. Logarithmic in them.
-pub(crate) fn is_among(live: &[usize], number: usize) -> bool
-    requires { IsAscending live.now }
-    ensures { (result ≡ true) ↔ Member number live.now }
-{
-    live.binary_search(&number).is_ok()
 }

@@ -1,6 +1,5 @@
 //! Look-ups of any atom or role. One that is out of range stands in no axiom.
 ghost use Rattle.std.specs.Prelude.{◌≡◌, ◌<◌, ◌↔◌, true};
-ghost use Rattle.cd_base.specs.Lists.{Member};
 ghost use Rattle.cd_base.specs.Normal.{Under};
 ghost use Rattle.cd_index.specs.Index.{IsFiling};
 ghost use Rattle.cd_rules.specs.LookUps.{filed_at, AreAtAtom, AreNumbers, HasAllWith};

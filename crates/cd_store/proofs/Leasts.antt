@@ -1,5 +1,5 @@
 -- The least live subset of a clause, and that none is a superset.
-use Rattle.std.proofs.Common.{◌≡◌, ℕ, ◌<◌, ◌≤◌, ◌+◌, ◌-◌, ◌⊎◌, ◌==◌, false, cond, List, [], ◌∷◌, ◌++◌, Option, None, Some, length, take, drop, get_or, slice_get, zero, suc, refl, sym, ◌∙◌, ap, subst, inl, inr, arith}
+use Rattle.std.proofs.Common.{◌≡◌, ℕ, ◌<◌, ◌≤◌, ◌+◌, ◌-◌, ◌⊎◌, ◌==◌, Bool, true, false, not, cond, List, [], ◌∷◌, ◌++◌, Option, None, Some, length, take, drop, get_or, slice_get, zero, suc, refl, sym, ◌∙◌, ap, subst, inl, inr, arith}
 use Rattle.std.proofs.Math.Seq.{take-length}
 use Rattle.std.proofs.lemmas.Bool.{cases_lt, ne_eqb}
 use Rattle.std.proofs.lemmas.List.{get_or_append_left, length-append}
@@ -8,7 +8,9 @@ use Rattle.cd_base.specs.Lists.{Member, Within}
 use Rattle.cd_clause.specs.declared.elem.Elem.{Elem}
 use Rattle.cd_clause.specs.Derivations.{Redundant}
 use Rattle.cd_clause.specs.Numbers.{picked}
-use Rattle.cd_store.specs.Filing.{ends_in, goes_on_from, listed, AreFiled, IsFiled, KeepsFiled}
+use Rattle.cd_clause.specs.declared.elem.Elem.TheVariants.{Plain, Exist}
+use Rattle.cd_store.specs.Filing.{ends_in, existentials, goes_on_from, listed, AreFiled, IsFiled, IsUnder, KeepsFiled}
+use Rattle.cd_store.specs.LookUps.{HasElem, HasExistential}
 use Rattle.cd_store.specs.Sift.{Sifts}
 use Rattle.cd_store.specs.Store.{IsStore, IsHeld}
 use Rattle.cd_store.specs.Subsets.{HoldsSubset, IsAtMost, IsSubset}
@@ -20,22 +22,61 @@ only_empty clauses live n k s h i e = s.minimal n k h i (λ x m. absurd (subst (
 
 -- ---- what is filed
 
+under_own : (f : List (ℕ × List ℕ)) (n q : ℕ) (e : Elem) → IsUnder f n q e → Member n (listed f q)
+under_own f n q (Plain a) h = h
+under_own f n q (Exist r k) h = h.0
+
+pub under_kept : (f g : List (ℕ × List ℕ)) (n q : ℕ) (e : Elem) → KeepsFiled f g → IsUnder f n q e → IsUnder g n q e
+under_kept f g n q (Plain a) k h = k q n h
+under_kept f g n q (Exist r l) k h = (k q n h.0, k existentials n h.1)
+
 -- a clause is filed under its last element
 pub filed_end : (f : List (ℕ × List ℕ)) (n : ℕ) (x : Elem) (c : List Elem) → IsFiled f n (x ∷ c) → (e : Elem) × Member e (x ∷ c) × Member n (listed f (ends_in e))
-filed_end f n x [] h = (x, inl refl, h)
+filed_end f n x [] h = (x, inl refl, under_own f n (ends_in x) x h)
 filed_end f n x (y ∷ c) h = let w = filed_end f n y c h.1 in (w.0, inr w.1, w.2)
 
 -- and under each of its elements, in one list or the other
 pub filed_with : (f : List (ℕ × List ℕ)) (n : ℕ) (c : List Elem) (e : Elem) → IsFiled f n c → Member e c → Member n (listed f (ends_in e)) ⊎ Member n (listed f (goes_on_from e))
 filed_with f n [] e h m = absurd m
-filed_with f n (x ∷ []) e h m = elim m [ inl q ↦ inl (subst (λ (z : Elem). Member n (listed f (ends_in z))) (sym q) h) | inr z ↦ absurd z ]
-filed_with f n (x ∷ (y ∷ c)) e h m = elim m [ inl q ↦ inr (subst (λ (z : Elem). Member n (listed f (goes_on_from z))) (sym q) h.0) | inr k ↦ filed_with f n (y ∷ c) e h.1 k ]
+filed_with f n (x ∷ []) e h m = elim m [ inl q ↦ inl (subst (λ (z : Elem). Member n (listed f (ends_in z))) (sym q) (under_own f n (ends_in x) x h)) | inr z ↦ absurd z ]
+filed_with f n (x ∷ (y ∷ c)) e h m = elim m [
+  | inl q ↦ inr (subst (λ (z : Elem). Member n (listed f (goes_on_from z))) (sym q) (under_own f n (goes_on_from x) x h.0))
+  | inr k ↦ filed_with f n (y ∷ c) e h.1 k
+]
+
+-- and among those with an existential, where it has one
+pub filed_existential : (f : List (ℕ × List ℕ)) (n : ℕ) (c : List Elem) (r : ℕ) (k : List ℕ) → IsFiled f n c → Member (Exist r k) c → Member n (listed f existentials)
+filed_existential f n [] r k h m = absurd m
+filed_existential f n (x ∷ []) r k h m = elim m [ inl q ↦ (let u : IsUnder f n (ends_in x) (Exist r k) = subst (λ (z : Elem). IsUnder f n (ends_in x) z) (sym q) h in u.1) | inr z ↦ absurd z ]
+filed_existential f n (x ∷ (y ∷ c)) r k h m = elim m [
+  | inl q ↦ (let u : IsUnder f n (goes_on_from x) (Exist r k) = subst (λ (z : Elem). IsUnder f n (goes_on_from x) z) (sym q) h.0 in u.1)
+  | inr i ↦ filed_existential f n (y ∷ c) r k h.1 i
+]
+
+-- a stored clause with an atom is in one of the two lists of the atom
+pub atom_listed : (f : List (ℕ × List ℕ)) (store : List (List Elem) × List ℕ) (clauses : List (List Elem)) (live : List ℕ) (a n : ℕ) → (clauses, live) ≡ store → AreFiled f clauses → HasElem store.0 (Plain a) n
+    → Member n (listed f (ends_in (Plain a))) ⊎ Member n (listed f (goes_on_from (Plain a)))
+atom_listed f store clauses live a n e filed h =
+    let k : HasElem clauses (Plain a) n = subst (λ (s : List (List Elem) × List ℕ). HasElem s.0 (Plain a) n) (sym e) h in
+    filed_with f n (get_or clauses n []) (Plain a) (filed n k.0) k.1
+
+-- a stored clause with an existential is in their list
+pub existential_listed : (f : List (ℕ × List ℕ)) (store : List (List Elem) × List ℕ) (clauses : List (List Elem)) (live : List ℕ) (n : ℕ) → (clauses, live) ≡ store → AreFiled f clauses → HasExistential store.0 n
+    → Member n (listed f existentials)
+existential_listed f store clauses live n e filed h =
+    let k : HasElem clauses (Exist h.0 h.1) n = subst (λ (s : List (List Elem) × List ℕ). HasElem s.0 (Exist h.0 h.1) n) (sym e) h.2 in
+    filed_existential f n (get_or clauses n []) h.0 h.1 (filed n k.0) k.1
+
+-- what is in a list shows that it isn't empty
+pub some_listed : (xs ys : List ℕ) (b : Bool) (n : ℕ) → xs ≡ ys → b ≡ (length xs == 0) → Member n ys → not b ≡ true
+some_listed xs [] b n s e m = absurd m
+some_listed xs (y ∷ ys) b n s e m = ap not (e ∙ ap (λ (l : List ℕ). length l == 0) s ∙ ne_eqb (length (y ∷ ys)) 0 (λ z. absurd (omega (arith, z))))
 
 -- it stays so where more is filed
 pub is_filed_kept : (f g : List (ℕ × List ℕ)) (n : ℕ) (c : List Elem) → KeepsFiled f g → IsFiled f n c → IsFiled g n c
 is_filed_kept f g n [] k h = tt
-is_filed_kept f g n (x ∷ []) k h = k (ends_in x) n h
-is_filed_kept f g n (x ∷ (y ∷ c)) k h = (k (goes_on_from x) n h.0, is_filed_kept f g n (y ∷ c) k h.1)
+is_filed_kept f g n (x ∷ []) k h = under_kept f g n (ends_in x) x k h
+is_filed_kept f g n (x ∷ (y ∷ c)) k h = (under_kept f g n (goes_on_from x) x k h.0, is_filed_kept f g n (y ∷ c) k h.1)
 
 -- what is at a place is a member
 pub member_got : {X : Type 0} (xs : List X) (i : ℕ) (x : X) → Some x ≡ slice_get xs i → Member x xs
@@ -96,16 +137,16 @@ nothing_left f n (y ∷ rest) l = absurd (omega arith)
 -- the first of what is left is filed, and then the others are
 pub first_filed : (f : List (ℕ × List ℕ)) (n : ℕ) (rest : List Elem) (x : Elem) (k : ℕ) → 1 ≤ length rest → x ≡ get_or rest 0 x
     → k ≡ cond (length (take (length rest - 1) (drop 1 rest)) == 0) (ends_in x) (goes_on_from x)
-    → Member n (listed f k) → IsFiled f n (take (length rest - 1) (drop 1 rest)) → IsFiled f n rest
+    → IsUnder f n k x → IsFiled f n (take (length rest - 1) (drop 1 rest)) → IsFiled f n rest
 first_filed f n [] x k l e q m h = absurd (omega arith)
 first_filed f n (z ∷ rest) x k l e q m h =
     by rest (subst (λ (w : List Elem). k ≡ cond (length w == 0) (ends_in x) (goes_on_from x)) (tail z rest) q) (subst (λ (w : List Elem). IsFiled f n w) (tail z rest) h)
   where
     by : (w : List Elem) → k ≡ cond (length w == 0) (ends_in x) (goes_on_from x) → IsFiled f n w → IsFiled f n (z ∷ w)
-    by [] q h = subst (λ (j : ℕ). Member n (listed f j)) (q ∙ ap ends_in e) m
+    by [] q h = subst (λ (w : Elem). IsUnder f n (ends_in w) w) e (subst (λ (j : ℕ). IsUnder f n j x) q m)
     by (y ∷ w) q h =
         let some : (length (y ∷ w) == 0) ≡ false = ne_eqb (length (y ∷ w)) 0 (λ z. absurd (omega (arith, z))) in
-        (subst (λ (j : ℕ). Member n (listed f j)) (q ∙ ap (λ b. cond b (ends_in x) (goes_on_from x)) some ∙ ap goes_on_from e) m, h)
+        (subst (λ (w : Elem). IsUnder f n (goes_on_from w) w) e (subst (λ (j : ℕ). IsUnder f n j x) (q ∙ ap (λ b. cond b (ends_in x) (goes_on_from x)) some) m), h)
 
 -- what was filed stays so where more is
 pub filed_kept : (f g : List (ℕ × List ℕ)) (clauses : List (List Elem)) → KeepsFiled f g → AreFiled f clauses → AreFiled g clauses

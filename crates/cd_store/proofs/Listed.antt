@@ -1,12 +1,13 @@
 -- What is listed under a number.
-use Rattle.std.proofs.Common.{◌≡◌, ℕ, Bool, true, false, cond, List, [], ◌∷◌, map, Some, refl, sym, ap, ◌∙◌, subst, eqb-true, eq-eqb}
+use Rattle.std.proofs.Common.{◌≡◌, ℕ, zero, suc, ◌+◌, ◌*◌, ◌/◌, ◌<◌, Bool, true, false, cond, List, [], ◌∷◌, length, map, get_or, slice_get, Some, None, refl, sym, ap, ◌∙◌, subst, inl, inr, arith, eqb-true, eq-eqb}
 use Rattle.std.specs.Prelude.{nat_eq}
 use Rattle.std.specs.Map.{lookup}
 use Rattle.std.specs.Option.{option_map_or}
 use Rattle.std.proofs.lemmas.Bool.{cond-true}
 use Rattle.smallvec.specs.SmallVec.{SmallVec}
 use Rattle.cd_base.specs.Lists.{Member}
-use Rattle.cd_store.specs.Filing.{KeepsFiled, listed}
+use Rattle.cd_base.proofs.Members.{member_at}
+use Rattle.cd_store.specs.Filing.{keys_of, listed, HasList, KeepsFiled}
 
 -- the numbers of a list as a map has it
 abbrev pub numbers_of : SmallVec ℕ → List ℕ
@@ -20,6 +21,31 @@ listed_of {V} items (e ∷ es) a = by (nat_eq a e.0) (listed_of items es a)
     by : (b : Bool) → listed (map (λ (w : ℕ × V). (w.0, items w.1)) es) a ≡ option_map_or items (lookup (nat_eq a) es) [] → cond b (items e.1) (listed (map (λ (w : ℕ × V). (w.0, items w.1)) es) a) ≡ option_map_or items (cond b (Some e.1) (lookup (nat_eq a) es)) []
     by true r = refl
     by false r = r
+
+-- a number that is listed is listed under one of the keys
+listed_key : (ps : List (ℕ × List ℕ)) (q m : ℕ) → Member m (listed ps q) → Member q (keys_of ps)
+listed_key [] q m h = absurd h
+listed_key (p ∷ ps) q m h = by (nat_eq q p.0) refl (listed_key ps q m) h
+  where
+    by : (b : Bool) → nat_eq q p.0 ≡ b → (Member m (listed ps q) → Member q (keys_of ps)) → Member m (cond b p.1 (listed ps q)) → Member q (keys_of (p ∷ ps))
+    by true e r h = inl (eqb-true q p.0 e)
+    by false e r h = inr (r h)
+
+-- the key of the entry at a place
+pub key_place : {V : Type 0} (items : V → List ℕ) (es : List (ℕ × V)) (i : ℕ) (p : ℕ × V) → Some p ≡ slice_get es i → p.0 ≡ get_or (keys_of (map (λ e. (e.0, items e.1)) es)) i 0
+key_place items [] i p e = let q : Some p ≡ None = e in absurd (cc)
+key_place items (x ∷ es) zero p e = let q : Some p ≡ Some x = e in let r : p ≡ x = cc in ap (λ (w : _). w.0) r
+key_place items (x ∷ es) (suc i) p e = key_place items es i p e
+
+-- the list at place i is one of the number
+abbrev pub IsNumberAt : List (ℕ × List ℕ) → ℕ → ℕ → Type 0
+IsNumberAt f i a = get_or (keys_of f) i 0 / 2 ≡ a
+
+pub number_place : (f : List (ℕ × List ℕ)) (a : ℕ) → HasList f a → (i : ℕ) × (i < length (keys_of f)) × IsNumberAt f i a
+number_place f a h = elim h.1 [
+  | inl m ↦ (let w = member_at (a * 2) (keys_of f) (listed_key f (a * 2) h.0 m) in let e : get_or (keys_of f) w.0 0 ≡ a * 2 = w.2 0 in (w.0, w.1, omega arith))
+  | inr m ↦ (let w = member_at (a * 2 + 1) (keys_of f) (listed_key f (a * 2 + 1) h.0 m) in let e : get_or (keys_of f) w.0 0 ≡ a * 2 + 1 = w.2 0 in (w.0, w.1, omega arith))
+]
 
 module _ {V : Type 0} (items : V → List ℕ) where
   -- the view of the entries of a map

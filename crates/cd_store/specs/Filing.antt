@@ -1,5 +1,5 @@
 -- Numbers of clauses, filed by what the clauses have.
-use Rattle.std.specs.Prelude.{ℕ, ◌<◌, ◌+◌, ◌*◌, ◌%◌, cond, nat_eq, List, [], ◌∷◌, length, slice_index_or}
+use Rattle.std.specs.Prelude.{ℕ, ◌<◌, ◌⊎◌, ◌+◌, ◌*◌, ◌%◌, cond, nat_eq, List, [], ◌∷◌, length, map, slice_index_or}
 use Rattle.cd_base.specs.Lists.{Member}
 use Rattle.cd_base.specs.Keys.{folded}
 use Rattle.cd_clause.specs.declared.elem.Elem.{Elem}
@@ -22,11 +22,28 @@ ends_in e = filed_under e * 2
 abbrev pub goes_on_from : Elem → ℕ
 goes_on_from e = filed_under e * 2 + 1
 
+-- the list of all clauses with an existential
+abbrev pub existentials : ℕ
+existentials = 2199023255552
+
+-- the clause's number is in this list of one of its elements, and in that of all existentials where the element is one
+abbrev pub IsUnder : List (ℕ × List ℕ) → ℕ → ℕ → Elem → Type 0
+IsUnder f n q (Plain a) = Member n (listed f q)
+IsUnder f n q (Exist r k) = Member n (listed f q) × Member n (listed f existentials)
+
 -- the clause's number is filed under each of its elements, and under the last one apart
 abbrev pub IsFiled : List (ℕ × List ℕ) → ℕ → List Elem → Type 0
 IsFiled f n [] = Unit {0}
-IsFiled f n (e ∷ []) = Member n (listed f (ends_in e))
-IsFiled f n (e ∷ (d ∷ es)) = Member n (listed f (goes_on_from e)) × IsFiled f n (d ∷ es)
+IsFiled f n (e ∷ []) = IsUnder f n (ends_in e) e
+IsFiled f n (e ∷ (d ∷ es)) = IsUnder f n (goes_on_from e) e × IsFiled f n (d ∷ es)
+
+-- the keys of the lists, in the order in which they came
+abbrev pub keys_of : List (ℕ × List ℕ) → List ℕ
+keys_of f = map (λ p. p.0) f
+
+-- one of the two lists of the number has something
+abbrev pub HasList : List (ℕ × List ℕ) → ℕ → Type 0
+HasList f a = (n : ℕ) × (Member n (listed f (a * 2)) ⊎ Member n (listed f (a * 2 + 1)))
 
 -- each stored clause is filed
 abbrev pub AreFiled : List (ℕ × List ℕ) → List (List Elem) → Type 0

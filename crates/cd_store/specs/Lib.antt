@@ -1,4 +1,5 @@
 pub mod Filing
+pub mod LookUps
 pub mod Sift
 pub mod Store
 pub mod Subsets

@@ -1,17 +1,23 @@
 //! The clauses that are stored, by what they have.
-ghost use Rattle.std.specs.Prelude.{◌≡◌, ◌<◌, ℕ, [], cond, OnOk};
+ghost use Rattle.std.specs.Prelude.{◌≡◌, ◌<◌, ℕ, [], cond, length, slice_index_or, OnOk};
 ghost use Rattle.cd_base.specs.Lists.{Member};
-ghost use Rattle.cd_store.specs.Filing.{ends_in, filed_under, goes_on_from, listed, IsFiled, KeepsFiled};
+ghost use Rattle.cd_clause.specs.declared.elem.Elem.TheVariants.{Plain};
+ghost use Rattle.cd_store.specs.Filing.{ends_in, existentials, filed_under, goes_on_from, keys_of, listed, HasList, IsFiled, IsUnder, KeepsFiled};
+ghost use Rattle.cd_store.specs.LookUps.{Gains};
 
-use cd_base::Memory;
+use cd_base::{Atom, Memory};
 use cd_clause::{Clause, Elem};
 use indexmap::IndexMap;
 use smallvec::SmallVec;
 use std::alloc::Global;
 use std::marker::Model;
 
+/// The key of the list of all clauses with an existential, above those of the lists of elements.
+const EXISTENTIALS: u64 = 2_199_023_255_552;
+
 /// The numbers of clauses by their elements: two lists for each element, of the clauses that end in it, and of those in which another
-/// follows it. A subset of a clause ends in one of its elements, so that one short list for each is enough to find it.
+/// follows it. A subset of a clause ends in one of its elements, so that one short list for each is enough to find it. One list more has
+/// the clauses with an existential.
 ///
 /// Elements are told apart by a number alone, which some of them may share: what is filed under an element is where a clause with it is
 /// found, and each clause that is found is still to be compared. A number stays filed when its clause dies.
@@ -38,8 +44,8 @@ impl Filing {
         }
     }
 
-    /// Files the number of a clause under each of its elements. One look-up for each, and linear in their keys. After `Memory` the number
-    /// is filed under some of them.
+    /// Files the number of a clause under each of its elements. A look-up for each, two for an existential, and linear in their keys. After
+    /// `Memory` the number is filed under some of them.
     pub(crate) fn file(
         &mut self,
         alloc: Global,
@@ -52,10 +58,32 @@ impl Filing {
         let mut rest = clause.elems();
         'elems: while let [elem, others @ ..] = rest {
             let list = list_of(elem, others.is_empty());
-            self.file_under(alloc, list, number)?;
+            self.file_elem(alloc, list, elem, number)?;
             rest = others;
         }
         Ok(())
+    }
+
+    /// Files the number of a clause under this key, which is one of the element, and under that of all existentials where it is one. One
+    /// look-up, or two.
+    fn file_elem(
+        &mut self,
+        alloc: Global,
+        key: u64,
+        elem: &Elem,
+        number: usize,
+    ) -> Result<(), Memory>
+        ensures filed { OnOk result (IsUnder self.new number key elem.now) }
+        ensures kept { KeepsFiled self.old self.new }
+    {
+        self.file_under(alloc, key, number)?;
+        match elem {
+            Elem::Plain(_) => Ok(()),
+            Elem::Exist(_, _) => {
+                self.file_under(alloc, EXISTENTIALS, number)?;
+                Ok(())
+            }
+        }
     }
 
     /// Files the number of a clause under this key. One look-up.
@@ -99,6 +127,56 @@ impl Filing {
         ensures { result.now ≡ listed self.now (goes_on_from elem.now) }
     {
         self.list(list_of(elem, false))
+    }
+
+    /// As `ending_in`, for an atom. One look-up.
+    pub(crate) fn ending_in_atom(&self, atom: Atom) -> &[usize]
+        ensures { result.now ≡ listed self.now (ends_in (Plain atom)) }
+    {
+        self.list((atom.number() as u64) * 2)
+    }
+
+    /// As `going_on_from`, for an atom. One look-up.
+    pub(crate) fn going_on_from_atom(&self, atom: Atom) -> &[usize]
+        ensures { result.now ≡ listed self.now (goes_on_from (Plain atom)) }
+    {
+        self.list((atom.number() as u64) * 2 + 1)
+    }
+
+    /// The numbers of clauses with an existential, lent: they are among these. One look-up.
+    pub(crate) fn with_existential(&self) -> &[usize]
+        ensures { result.now ≡ listed self.now existentials }
+    {
+        self.list(EXISTENTIALS)
+    }
+
+    /// How many lists there are. Constant time.
+    pub(crate) fn count(&self) -> usize
+        ensures { result ≡ length (keys_of self.now) }
+    {
+        self.by_element.len()
+    }
+
+    /// The key of one of the lists, in the order in which they came. Constant time.
+    fn key_at(&self, i: usize) -> u64
+        requires { i < length (keys_of self.now) }
+        ensures { result ≡ slice_index_or (keys_of self.now) i 0 }
+    {
+        match self.by_element.get_index(i) {
+            Some(entry) => *entry.0,
+            // not reached
+            None => 0,
+        }
+    }
+
+    /// Appends, for each list of an element, the number under which that is filed. Linear in the lists.
+    pub(crate) fn push_numbers(&self, numbers: &mut Vec<u64>) -> Result<(), Memory>
+        ensures { OnOk result (Gains (HasList self.now) numbers.old.items numbers.new.items) }
+    {
+        'lists: for i in 0..self.count() {
+            numbers.push(self.key_at(i) / 2)?;
+        }
+        Ok(())
     }
 
     /// The list under this key, lent. One look-up.

@@ -6,6 +6,8 @@
 //! Each number is filed under the elements of its clause, and apart under the last of them. So the subsets of a new clause are sought among
 //! the clauses that end in one of its elements, and its supersets among those with its last, and a clause is compared with no other. Only
 //! the empty clause has no element: where it is live nothing else is, so the first live clause is always compared.
+//!
+//! Whoever closes the clauses under rules asks the same lists which clauses have an atom (`Store::push_with_atom`) or an existential.
 #![tactic(auto)]
 
 mod filing;

@@ -1,15 +1,17 @@
 //! The store of a context.
-ghost use Rattle.std.specs.Prelude.{◌≡◌, ◌<◌, ◌↔◌, ◌∷◌, ◌++◌, ℕ, List, [], length, true, IfOk, OnOk, OnErr, reverse, slice_index_or};
+ghost use Rattle.std.specs.Prelude.{◌≡◌, ◌<◌, ◌↔◌, ◌∷◌, ◌++◌, ℕ, List, [], length, true, IfOk, IfSome, OnOk, OnErr, reverse, slice_index_or};
 ghost use Rattle.std.specs.Bool.{OnFalse};
 ghost use Rattle.cd_base.specs.Lists.{Member, Within};
 ghost use Rattle.cd_clause.specs.declared.elem.Elem.{Elem};
+ghost use Rattle.cd_clause.specs.declared.elem.Elem.TheVariants.{Plain};
 ghost use Rattle.cd_store.specs.Filing.{AreFiled};
+ghost use Rattle.cd_store.specs.LookUps.{Gains, HasElem, HasExistential};
 ghost use Rattle.cd_store.specs.Sift.{Sifts};
 ghost use Rattle.cd_store.specs.Store.{IsStore, IsOutcome, ContainsNoEarlier};
 
 use crate::filing::Filing;
 use crate::subsets::{find_subset, is_among};
-use cd_base::Memory;
+use cd_base::{Atom, Memory};
 use cd_clause::Clause;
 use std::alloc::Global;
 use std::marker::Model;
@@ -73,6 +75,13 @@ impl Store {
         &self.live
     }
 
+    /// Whether the number is that of a live clause. Logarithmic in the live ones.
+    pub fn is_live(&self, number: usize) -> bool
+        ensures { (result ≡ true) ↔ Member number self.now.1 }
+    {
+        is_among(&self.live, number)
+    }
+
     /// Stores the clause under the next number and makes it live, and makes its live supersets dead; or changes nothing, where a live
     /// clause is a subset of it. A look-up for each element of the clause; for each stored clause that may end in an
     /// element of it or have its last one, logarithmic in the live ones, and a walk over both where that one is live; and where a
@@ -97,6 +106,48 @@ impl Store {
         )?;
         self.clauses.push_reserved(clause);
         Ok(Added::New(number))
+    }
+
+    /// Whether a stored clause, live or dead, has the atom: true wherever one has, and maybe where none has. Two look-ups.
+    pub fn may_have(&self, atom: Atom) -> bool
+        ensures { (n : ℕ) → HasElem self.now.0 (Plain atom) n → result ≡ true }
+    {
+        if !self.filing.ending_in_atom(atom).is_empty() {
+            return true;
+        }
+        !self.filing.going_on_from_atom(atom).is_empty()
+    }
+
+    /// Appends the number of each stored clause, live or dead, that has the atom, and maybe others. Two look-ups, and linear in what is
+    /// appended.
+    pub fn push_with_atom(&self, atom: Atom, found: &mut Vec<usize>) -> Result<(), Memory>
+        ensures { OnOk result (Gains (HasElem self.now.0 (Plain atom)) found.old.items found.new.items) }
+    {
+        found.extend_from_slice(self.filing.ending_in_atom(atom))?;
+        found.extend_from_slice(self.filing.going_on_from_atom(atom))?;
+        Ok(())
+    }
+
+    /// Appends the number of each stored clause, live or dead, that has an existential, and maybe others. One look-up, and linear in what
+    /// is appended.
+    pub fn push_with_existential(&self, found: &mut Vec<usize>) -> Result<(), Memory>
+        ensures { OnOk result (Gains (HasExistential self.now.0) found.old.items found.new.items) }
+    {
+        found.extend_from_slice(self.filing.with_existential())?;
+        Ok(())
+    }
+
+    /// Numbers, those of all atoms of stored clauses among them, each at most twice; `None` where there are more than `at_most` of them, which
+    /// is a matter of cost alone. Linear in them.
+    pub fn atom_numbers(&self, alloc: Global, at_most: usize) -> Result<Option<Vec<u64>>, Memory>
+        ensures { IfOk result (λ some. IfSome some (λ numbers. (a n : ℕ) → HasElem self.now.0 (Plain a) n → Member a numbers.items)) }
+    {
+        if self.filing.count() > at_most {
+            return Ok(None);
+        }
+        let mut numbers = Vec::new(alloc);
+        self.filing.push_numbers(&mut numbers)?;
+        Ok(Some(numbers))
     }
 }
 

@@ -1,52 +1,130 @@
+//! Small stores. Expected values are written by hand.
+//! What has many parts is let go of by `drop`, which the prover takes as one step.
 use crate::{Added, Store};
-use cd_base::{Atom, Key, Memory, Role};
+use cd_base::{Atom, Key, Role};
 use cd_clause::{Clause, Elem};
 use std::alloc::Global;
-use std::test::Fail;
+use std::process::Abort;
 
 /// The clause of these atoms.
-fn of_atoms(alloc: Global, atoms: &[u32]) -> Result<Clause, Fail> {
+fn of_atoms(rt: &impl Abort, alloc: Global, atoms: &[u32]) -> Clause {
     let mut elems = Vec::new(alloc);
     for atom in atoms {
-        elems.push(Elem::Plain(Atom(*atom)))?;
+        elems.push(Elem::Plain(Atom(*atom))).expect(rt, "memory");
     }
-    Ok(Clause::of(alloc, elems.as_slice())?)
+    Clause::of(alloc, elems.as_slice()).expect(rt, "memory")
+}
+
+/// What adding the clause of these atoms comes to.
+fn add(rt: &impl Abort, alloc: Global, store: &mut Store, atoms: &[u32]) -> Added {
+    store
+        .add(alloc, of_atoms(rt, alloc, atoms))
+        .expect(rt, "memory")
 }
 
 #[test]
-fn a_clause_is_stored_unless_a_subset_is_live_and_its_supersets_die(
-    rt: HostRuntime,
-) -> Result<(), Fail> {
-    let alloc = rt.alloc();
-    let mut store = Store::new(alloc);
-    assert_eq!(rt; store.add(alloc, of_atoms(alloc, &[2, 3])?)?, Added::New(0));
-    assert_eq!(rt;
-        store.add(alloc, of_atoms(alloc, &[2, 3, 4])?)?,
-        Added::Held(0)
-    );
-    assert_eq!(rt; store.add(alloc, of_atoms(alloc, &[2])?)?, Added::New(1));
-    assert_eq!(rt;
-        store.add(alloc, of_atoms(alloc, &[2, 3])?)?,
-        Added::Held(1)
-    );
-    assert_eq!(rt; store.live(), [1].as_slice());
+fn a_clause_is_stored_unless_a_subset_is_live(rt: HostRuntime) {
+    let mut store = Store::new(rt.alloc());
+    assert!(rt; add(&rt, rt.alloc(), &mut store, &[2, 3]) == Added::New(0));
+    assert!(rt; add(&rt, rt.alloc(), &mut store, &[2, 3, 4]) == Added::Held(0));
+    assert!(rt; store.live() == [0].as_slice());
+    drop(store);
+}
+
+#[test]
+fn the_supersets_of_a_new_clause_die(rt: HostRuntime) {
+    let mut store = Store::new(rt.alloc());
+    assert!(rt; add(&rt, rt.alloc(), &mut store, &[2, 3]) == Added::New(0));
+    assert!(rt; add(&rt, rt.alloc(), &mut store, &[2]) == Added::New(1));
+    assert!(rt; add(&rt, rt.alloc(), &mut store, &[2, 3]) == Added::Held(1));
+    assert!(rt; store.live() == [1].as_slice());
     assert_eq!(rt; store.clauses().len(), 2);
-    Ok(())
+    drop(store);
 }
 
 #[test]
-fn the_least_number_of_a_live_subset_is_told(rt: HostRuntime) -> Result<(), Fail> {
-    let alloc = rt.alloc();
+fn the_least_number_of_a_live_subset_is_told(rt: HostRuntime) {
+    let mut store = Store::new(rt.alloc());
+    assert!(rt; add(&rt, rt.alloc(), &mut store, &[5]) == Added::New(0));
+    assert!(rt; add(&rt, rt.alloc(), &mut store, &[7]) == Added::New(1));
+    assert!(rt; add(&rt, rt.alloc(), &mut store, &[5, 7]) == Added::Held(0));
+    drop(store);
+}
+
+#[test]
+fn the_empty_clause_is_live_alone(rt: HostRuntime) {
+    let mut store = Store::new(rt.alloc());
+    assert!(rt; add(&rt, rt.alloc(), &mut store, &[5]) == Added::New(0));
+    assert!(rt; add(&rt, rt.alloc(), &mut store, &[7]) == Added::New(1));
+    assert!(rt; add(&rt, rt.alloc(), &mut store, &[]) == Added::New(2));
+    assert!(rt; store.live() == [2].as_slice());
+    drop(store);
+}
+
+/// A store of four clauses: of 2 and 3, of 3 and 5, of 7, and of 4 and an edge to a 4.
+fn four_clauses(rt: &impl Abort, alloc: Global) -> Store {
     let mut store = Store::new(alloc);
-    assert_eq!(rt; store.add(alloc, of_atoms(alloc, &[5])?)?, Added::New(0));
-    assert_eq!(rt; store.add(alloc, of_atoms(alloc, &[7])?)?, Added::New(1));
-    assert_eq!(rt;
-        store.add(alloc, of_atoms(alloc, &[5, 7])?)?,
-        Added::Held(0)
-    );
-    assert_eq!(rt; store.add(alloc, of_atoms(alloc, &[])?)?, Added::New(2));
-    assert_eq!(rt; store.live(), [2].as_slice());
-    Ok(())
+    add(rt, alloc, &mut store, &[2, 3]);
+    add(rt, alloc, &mut store, &[3, 5]);
+    add(rt, alloc, &mut store, &[7]);
+    let edge = Elem::Exist(Role(0), Key::single(alloc, Atom(4)));
+    let clause = Clause::of(alloc, &[Elem::Plain(Atom(4)), edge]).expect(rt, "memory");
+    store.add(alloc, clause).expect(rt, "memory");
+    store
+}
+
+#[test]
+fn the_clauses_with_an_atom_are_found(rt: HostRuntime) {
+    let store = four_clauses(&rt, rt.alloc());
+    let mut found = Vec::new(rt.alloc());
+    store
+        .push_with_atom(Atom(3), &mut found)
+        .expect(&rt, "memory");
+    assert!(rt; found.as_slice() == [0, 1].as_slice());
+    assert!(rt; store.may_have(Atom(3)) && store.may_have(Atom(4)) && !store.may_have(Atom(6)));
+    drop(found);
+    drop(store);
+}
+
+#[test]
+fn the_clauses_with_an_existential_are_found(rt: HostRuntime) {
+    let store = four_clauses(&rt, rt.alloc());
+    let mut found = Vec::new(rt.alloc());
+    store
+        .push_with_existential(&mut found)
+        .expect(&rt, "memory");
+    assert!(rt; found.as_slice() == [3].as_slice());
+    drop(found);
+    drop(store);
+}
+
+/// Whether each of the atoms has its number among these.
+fn has_each(numbers: &[u64], atoms: &[u64]) -> bool {
+    for atom in atoms {
+        if !numbers.contains(atom) {
+            return false;
+        }
+    }
+    true
+}
+
+#[test]
+fn the_atoms_of_a_store_are_numbered_unless_there_are_too_many(rt: HostRuntime) {
+    let store = four_clauses(&rt, rt.alloc());
+    let Some(numbers) = store.atom_numbers(rt.alloc(), 100).expect(&rt, "memory") else {
+        panic!(rt; "there are few");
+    };
+    assert!(rt; has_each(numbers.as_slice(), &[2, 3, 4, 5, 7]));
+    drop(numbers);
+    drop(store);
+}
+
+#[test]
+fn a_dead_clause_is_not_live(rt: HostRuntime) {
+    let mut store = four_clauses(&rt, rt.alloc());
+    add(&rt, rt.alloc(), &mut store, &[3]);
+    assert!(rt; !store.is_live(0) && !store.is_live(1) && store.is_live(2) && store.is_live(4));
+    drop(store);
 }
 
 /// A clause that was stored, and whether it is live.
@@ -66,19 +144,19 @@ fn elem(alloc: Global, number: u32) -> Elem {
 }
 
 /// Three elements first, then two, then one, and none from 120 on.
-fn shape(alloc: Global, step: u32) -> Result<Clause, Memory> {
+fn shape(rt: &impl Abort, alloc: Global, step: u32) -> Clause {
     let n = step % 1_000;
     let mut elems = Vec::new(alloc);
     if n < 120 {
-        elems.push(elem(alloc, n * 5 + 1))?;
+        elems.push(elem(alloc, n * 5 + 1)).expect(rt, "memory");
     }
     if n < 80 {
-        elems.push(elem(alloc, n * 7 + 3))?;
+        elems.push(elem(alloc, n * 7 + 3)).expect(rt, "memory");
     }
     if n < 40 {
-        elems.push(elem(alloc, n / 3))?;
+        elems.push(elem(alloc, n / 3)).expect(rt, "memory");
     }
-    Clause::of(alloc, elems.as_slice())
+    Clause::of(alloc, elems.as_slice()).expect(rt, "memory")
 }
 
 /// The first live clause that is a subset.
@@ -102,52 +180,57 @@ fn kill(all: &mut [Scanned], clause: &Clause) {
 }
 
 /// What adding the clause comes to, by a plain scan.
-fn add_by_scan(all: &mut Vec<Scanned>, clause: Clause) -> Result<Added, Memory> {
+fn add_by_scan(rt: &impl Abort, all: &mut Vec<Scanned>, clause: Clause) -> Added {
     if let Some(i) = scan(all, &clause) {
-        return Ok(Added::Held(i));
+        return Added::Held(i);
     }
     let number = all.len();
     kill(all, &clause);
     all.push(Scanned {
         clause,
         is_live: true,
-    })?;
-    Ok(Added::New(number))
+    })
+    .expect(rt, "memory");
+    Added::New(number)
 }
 
 /// Whether these are the numbers of the live ones.
-fn are_live(alloc: Global, all: &[Scanned], numbers: &[usize]) -> Result<bool, Memory> {
+fn are_live(rt: &impl Abort, alloc: Global, all: &[Scanned], numbers: &[usize]) -> bool {
     let mut live = Vec::new(alloc);
     for i in 0..all.len() {
         if all[i].is_live {
-            live.push(i)?;
+            live.push(i).expect(rt, "memory");
         }
     }
-    Ok(live.as_slice() == numbers)
+    live.as_slice() == numbers
 }
 
 /// Whether the store and the scan come to the same.
 fn is_same(
+    rt: &impl Abort,
     alloc: Global,
     store: &mut Store,
     all: &mut Vec<Scanned>,
     step: u32,
-) -> Result<bool, Memory> {
-    let added = store.add(alloc, shape(alloc, step)?)?;
-    if added != add_by_scan(all, shape(alloc, step)?)? {
-        return Ok(false);
-    }
-    are_live(alloc, all, store.live())
+) -> bool {
+    let added = store
+        .add(alloc, shape(rt, alloc, step))
+        .expect(rt, "memory");
+    let wanted = add_by_scan(rt, all, shape(rt, alloc, step));
+    added == wanted && are_live(rt, alloc, all, store.live())
 }
 
 #[test]
-fn what_is_found_by_elements_is_what_a_plain_scan_finds(rt: HostRuntime) -> Result<(), Fail> {
-    let alloc = rt.alloc();
-    let mut store = Store::new(alloc);
-    let mut all = Vec::new(alloc);
+fn what_is_found_by_elements_is_what_a_plain_scan_finds(rt: HostRuntime) {
+    let mut store = Store::new(rt.alloc());
+    let mut all = Vec::new(rt.alloc());
     for step in 0..121u32 {
-        assert!(rt; is_same(alloc, &mut store, &mut all, step)?, "at {step}");
+        assert!(rt;
+            is_same(&rt, rt.alloc(), &mut store, &mut all, step),
+            "at {step}"
+        );
     }
     assert_eq!(rt; store.live().len(), 1);
-    Ok(())
+    drop(all);
+    drop(store);
 }

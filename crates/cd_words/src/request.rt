@@ -24,6 +24,7 @@ pub enum AskFault {
     /// The words are outside the form.
     #[error("the words ask for no command")]
     Usage,
+    /// Memory ran out, at words of the form.
     #[error("out of memory")]
     Memory,
 }

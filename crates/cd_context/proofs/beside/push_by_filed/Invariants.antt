@@ -1,6 +1,6 @@
+use Rattle.cd_store.proofs.Gaining.{HasGained}
 use Rattle.cd_context.proofs.Besides.{OfAtomAt}
-use Rattle.cd_context.proofs.Gaining.{HasGained}
 use Rattle.cd_context.proofs.beside.push_by_filed.Given as goal
 
 abbrev pub invariant-atoms : goal.invariant-atoms
-invariant-atoms l = HasGained (OfAtomAt l.index.normal l.filing l.index.filed l.atom) l.i l.fn.found.items l.found.items
+invariant-atoms l = HasGained (OfAtomAt l.index.normal l.store.0 l.index.filed l.fn.atoms l.atom) l.i l.fn.found.items l.found.items

@@ -1,10 +1,8 @@
-use Rattle.std.proofs.Common.{ℕ, List, sym, subst}
-use Rattle.cd_base.specs.Lists.{Member}
+use Rattle.cd_store.proofs.Gaining.{gain_less}
+use Rattle.cd_store.specs.LookUps.{HasExistential}
 use Rattle.cd_context.specs.Beside.{IsBesideUniversal}
-use Rattle.cd_context.proofs.Gaining.{gain_list}
 use Rattle.cd_context.proofs.beside.push_universal.Goals as goal
 
-pub returns-in_ok-extend_from_slice : goal.returns-in_ok-extend_from_slice
-returns-in_ok-extend_from_slice c =
-    gain_list (IsBesideUniversal c.args.index.now.normal c.args.filing.now c.args.atom) c.args.found.now.items c.extend_from_slice.new.self.items c.with_exist.result.now c.in_ok-extend_from_slice.ensures.items
-    (λ m q. subst (λ (l : List ℕ). Member m l) (sym c.with_exist.ensures) q.1)
+pub returns-in_ok-push_with_existential : goal.returns-in_ok-push_with_existential
+returns-in_ok-push_with_existential c =
+    gain_less (IsBesideUniversal c.args.index.now.normal c.args.store.now.0 c.args.atom) (HasExistential c.args.store.now.0) c.args.found.now.items c.push_with_existential.new.found.items (λ m q. q.1) c.in_ok-push_with_existential.ensures

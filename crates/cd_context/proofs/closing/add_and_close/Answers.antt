@@ -1,8 +1,7 @@
 use Rattle.std.proofs.Common.{sym, subst}
-use Rattle.cd_context.specs.TakeUp.{ClosedUpTo, Stays}
+use Rattle.cd_context.specs.TakeUp.{ClosedUpTo}
 use Rattle.cd_context.specs.Waits.{numbers}
 use Rattle.cd_context.proofs.Adds.{Continues, continues_trans}
-use Rattle.cd_context.proofs.Filings.{filed_first}
 use Rattle.cd_context.proofs.closing.add_and_close.Goals as goal
 
 pub add_all-requires-clause-closed : goal.add_all-requires-clause-closed
@@ -14,8 +13,3 @@ returns-clause-survivors c =
     let h : Continues c.args.store.now c.close.new.store = continues_trans c.args.store.now c.add_all.new.store c.close.new.store
     (record { follows = c.in_ok-add_all.ensures.follows; survivors = c.in_ok-add_all.ensures.survivors }) (record { follows = c.close.ensures.follows; survivors = c.close.ensures.survivors }) in
     h.survivors
-
-pub close-requires-clause-filed : goal.close-requires-clause-filed
-close-requires-clause-filed c =
-    filed_first c.args.filing.now c.args.store.now.0 c.add_all.new.store.0 c.args.store.now.1 c.add_all.new.store.1 (numbers c.add_all.new.waiting) c.requires.filed c.live-live.ensures.store.in_range c.in_ok-add_all.ensures.follows
-    (subst (λ w. Stays c.args.store.now.1 (numbers w) c.add_all.new.store.1 (numbers c.add_all.new.waiting)) c.new-waiting.ensures c.in_ok-add_all.ensures.stays)

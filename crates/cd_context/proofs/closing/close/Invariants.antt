@@ -1,5 +1,4 @@
 use Rattle.std.proofs.Common.{◌-◌, ◌^◌, [], length}
-use Rattle.cd_context.specs.Filing.{AreFiledBut}
 use Rattle.cd_context.specs.TakeUp.{ClosedUpTo, IsWorking}
 use Rattle.cd_context.specs.Waits.{numbers}
 use Rattle.cd_context.proofs.Adds.{Continues}
@@ -9,7 +8,6 @@ abbrev pub invariant-turns : goal.invariant-turns
 invariant-turns l = record {
   closed : ClosedUpTo l.index.normal l.key (record { backs = l.backs; deads = l.deads }) l.store.0 l.store.1 (numbers l.waiting) [];
   working : IsWorking l.index.normal l.key (record { backs = l.backs; deads = l.deads }) l.store.0 (numbers l.waiting);
-  filed : AreFiledBut l.filing l.store.0 l.store.1 (numbers l.waiting);
   continues : Continues l.initial.store l.store;
 }
 

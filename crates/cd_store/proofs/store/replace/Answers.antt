@@ -1,4 +1,4 @@
-use Rattle.std.proofs.Common.{ℕ, List, [], get_or, sym, subst}
+use Rattle.std.proofs.Common.{ℕ, List, sym, subst}
 use Rattle.std.proofs.lemmas.Bool.{OnFalse_at}
 use Rattle.cd_base.specs.Lists.{Member}
 use Rattle.cd_store.proofs.Leasts.{sifts_none}
