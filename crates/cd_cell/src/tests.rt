@@ -1,18 +1,17 @@
 //! A cell over a small index. Expected values are written by hand.
-ghost use Rattle.std.specs.Prelude.{◌≡◌, [], ◌∷◌, true, IfOk, IsTrue, List};
+//! What has many parts is let go of by `drop`, which the prover takes as one step.
+ghost use Rattle.std.specs.Prelude.{◌≡◌, [], ◌∷◌, true, IsTrue};
 ghost use Rattle.std.specs.List.{list_all};
 ghost use Rattle.cd_base.specs.Keys.{is_named};
 ghost use Rattle.cd_base.specs.Normal.{has_atoms_below};
-ghost use Rattle.cd_base.specs.declared.normal.Conj.{Conj};
-ghost use Rattle.cd_base.specs.declared.normal.Normal.{Normal};
 
 use crate::Cell;
 use cd_actor::{Actor, Outbox};
-use cd_base::{Atom, Conj, Key, Memory, Normal, Role, Seq, Triple};
+use cd_base::{Atom, Conj, Key, Normal, Role, Seq, Triple};
 use cd_context::{Fact, Note};
 use cd_index::{Closure, Index};
 use std::alloc::Global;
-use std::test::Fail;
+use std::process::Abort;
 
 fn triple(atom: u32, other: u32) -> Triple
     ensures atom { result.atom ≡ atom }
@@ -32,41 +31,43 @@ fn no_atoms(alloc: Global) -> Seq<Atom>
     Seq::of(Vec::new(alloc))
 }
 
-fn one_atom(alloc: Global, atom: u32) -> Result<Seq<Atom>, Memory>
-    ensures { IfOk result (λ atoms. atoms ≡ atom ∷ []) }
+fn one_atom(rt: &impl Abort, alloc: Global, atom: u32) -> Seq<Atom>
+    ensures { result ≡ atom ∷ [] }
 {
-    Ok(Seq::of(vec![in alloc; Atom(atom)]?))
+    Seq::of(vec![in alloc; Atom(atom)].expect(rt, "memory"))
 }
 
 /// `-> 0`, `1 ->` and `2 -> 3`.
-fn three_axioms(alloc: Global) -> Result<Seq<Conj>, Memory>
-    ensures { IfOk result (λ (axioms : List Conj). IsTrue (list_all (has_atoms_below 6) axioms)) }
+fn three_axioms(rt: &impl Abort, alloc: Global) -> Seq<Conj>
+    ensures { IsTrue (list_all (has_atoms_below 6) result) }
 {
     let always = Conj {
         left: no_atoms(alloc),
-        right: one_atom(alloc, 0)?,
+        right: one_atom(rt, alloc, 0),
     };
     let never = Conj {
-        left: one_atom(alloc, 1)?,
+        left: one_atom(rt, alloc, 1),
         right: no_atoms(alloc),
     };
     let below = Conj {
-        left: one_atom(alloc, 2)?,
-        right: one_atom(alloc, 3)?,
+        left: one_atom(rt, alloc, 2),
+        right: one_atom(rt, alloc, 3),
     };
-    Ok(Seq::of(vec![in alloc; always, never, below]?))
+    Seq::of(vec![in alloc; always, never, below].expect(rt, "memory"))
 }
 
 /// Six classes, one role, three axioms of atoms, an edge from each 2 to a 4, and whoever has an edge to a 4 is a 5.
-fn six_atoms(alloc: Global) -> Result<Normal, Memory>
-    ensures range { IfOk result (λ (normal : Normal). (normal.atoms ≡ 6) × (normal.roles ≡ 1) × (normal.n5 ≡ [])) }
-    ensures named { IfOk result (λ (normal : Normal). is_named normal 2 ≡ true) }
+fn six_atoms(rt: &impl Abort, alloc: Global) -> Normal
+    ensures atoms { result.atoms ≡ 6 }
+    ensures roles { result.roles ≡ 1 }
+    ensures chains { result.n5 ≡ [] }
+    ensures named { is_named result 2 ≡ true }
 {
-    let n1 = three_axioms(alloc)?;
-    let named = vec![in alloc; true, true, true, true, true, true]?;
-    let n2 = vec![in alloc; triple(2, 4)]?;
-    let n3 = vec![in alloc; triple(4, 5)]?;
-    Ok(Normal {
+    let n1 = three_axioms(rt, alloc);
+    let named = vec![in alloc; true, true, true, true, true, true].expect(rt, "memory");
+    let n2 = vec![in alloc; triple(2, 4)].expect(rt, "memory");
+    let n3 = vec![in alloc; triple(4, 5)].expect(rt, "memory");
+    Normal {
         atoms: 6,
         named: Seq::of(named),
         roles: 1,
@@ -75,20 +76,20 @@ fn six_atoms(alloc: Global) -> Result<Normal, Memory>
         n3: Seq::of(n3),
         n4: Seq::of(Vec::new(alloc)),
         n5: Seq::of(Vec::new(alloc)),
-    })
+    }
 }
 
 /// The index of `six_atoms`.
-fn hand_made(alloc: Global) -> Result<Index, Memory>
-    ensures { IfOk result (λ index. is_named index.normal 2 ≡ true) }
+fn hand_made(rt: &impl Abort, alloc: Global) -> Index
+    ensures { is_named result.normal 2 ≡ true }
 {
-    let normal = six_atoms(alloc)?;
-    let closure = Closure::of(alloc, normal.roles, normal.n5.items())?;
-    Index::of(alloc, normal, closure)
+    let normal = six_atoms(rt, alloc);
+    let closure = Closure::of(alloc, normal.roles, normal.n5.items()).expect(rt, "memory");
+    Index::of(alloc, normal, closure).expect(rt, "memory")
 }
 
 /// The only cell, after the start message of the class 2.
-fn started<'a>(alloc: Global, index: &'a Index, out: &mut Outbox<Note>) -> Result<Cell<'a>, Memory>
+fn started<'a>(rt: &impl Abort, alloc: Global, index: &'a Index, out: &mut Outbox<Note>) -> Cell<'a>
     requires { is_named index.now.normal 2 ≡ true }
 {
     let mut cell = Cell::new(alloc, 0, 1, index);
@@ -96,8 +97,8 @@ fn started<'a>(alloc: Global, index: &'a Index, out: &mut Outbox<Note>) -> Resul
         key: Key::single(alloc, Atom(2)),
         fact: Fact::Start,
     };
-    cell.deliver(alloc, start, out)?;
-    Ok(cell)
+    cell.deliver(alloc, start, out).expect(rt, "memory");
+    cell
 }
 
 /// That the class 2 has an edge to the class 4.
@@ -118,25 +119,35 @@ fn is_the_link_alone(alloc: Global, mut out: Outbox<Note>) -> bool {
 }
 
 #[test]
-fn a_start_message_begins_a_context_that_tells_its_link(rt: HostRuntime) -> Result<(), Fail> {
-    let alloc = rt.alloc();
-    let index = hand_made(alloc)?;
-    let mut out = Outbox::new(alloc);
-    let cell = started(alloc, &index, &mut out)?;
+fn a_start_message_begins_a_context_with_its_clauses(rt: HostRuntime) {
+    let index = hand_made(&rt, rt.alloc());
+    let mut out = Outbox::new(rt.alloc());
+    let cell = started(&rt, rt.alloc(), &index, &mut out);
     assert_eq!(rt; cell.contexts(), 1);
     assert_eq!(rt; cell.facts(), 4);
-    assert!(rt; is_the_link_alone(alloc, out));
-    Ok(())
+    drop(cell);
+    drop(out);
+    drop(index);
 }
 
 #[test]
-fn what_a_cell_owes_is_listed_once(rt: HostRuntime) -> Result<(), Fail> {
-    let alloc = rt.alloc();
-    let index = hand_made(alloc)?;
-    let mut sent = Outbox::new(alloc);
-    let cell = started(alloc, &index, &mut sent)?;
-    let mut owed = Outbox::new(alloc);
-    cell.list_owed(alloc, &mut owed)?;
-    assert!(rt; is_the_link_alone(alloc, owed));
-    Ok(())
+fn a_context_that_begins_tells_its_link(rt: HostRuntime) {
+    let index = hand_made(&rt, rt.alloc());
+    let mut out = Outbox::new(rt.alloc());
+    drop(started(&rt, rt.alloc(), &index, &mut out));
+    assert!(rt; is_the_link_alone(rt.alloc(), out));
+    drop(index);
+}
+
+#[test]
+fn what_a_cell_owes_is_listed_once(rt: HostRuntime) {
+    let index = hand_made(&rt, rt.alloc());
+    let mut sent = Outbox::new(rt.alloc());
+    let cell = started(&rt, rt.alloc(), &index, &mut sent);
+    drop(sent);
+    let mut owed = Outbox::new(rt.alloc());
+    cell.list_owed(rt.alloc(), &mut owed).expect(&rt, "memory");
+    drop(cell);
+    drop(index);
+    assert!(rt; is_the_link_alone(rt.alloc(), owed));
 }

@@ -1,30 +1,47 @@
 //! Worked documents and refusals, over sources in memory. What is expected was written by hand.
+//! What has many parts is let go of by `drop`, which the prover takes as one step.
 use crate::{ReadRefusal, Refusal, read_document, word_text};
 use cd_base::Limits;
 use cd_io::MemSource;
 use cd_meaning::Document;
 use std::alloc::Global;
-use std::test::Fail;
+use std::process::Abort;
 
 /// What a text is that comes in reads of `piece` bytes, of which at most `most` are taken.
 fn read(
+    rt: &impl Abort,
     alloc: Global,
     text: &[u8],
     piece: usize,
     most: u64,
-) -> Result<Result<Document, ReadRefusal>, Fail> {
-    let mut source = MemSource::new(text.to_vec(alloc)?, piece.max(1), Vec::new(alloc));
+) -> Result<Document, ReadRefusal> {
+    let bytes = text.to_vec(alloc).expect(rt, "memory");
+    let mut source = MemSource::new(bytes, piece.max(1), Vec::new(alloc));
     let limits = Limits::with(1, 1, most, 1, 1).unwrap_or(Limits::standard());
-    Ok(read_document(alloc, &mut source, &limits))
+    read_document(alloc, &mut source, &limits)
 }
 
 /// Why a text that comes at once is no document; `None` where it is one.
-fn refusal_of(alloc: Global, text: &[u8]) -> Result<Option<ReadRefusal>, Fail> {
-    Ok(read(alloc, text, 65_536, 1_000_000)?.err())
+fn refusal_of(rt: &impl Abort, alloc: Global, text: &[u8]) -> Option<ReadRefusal> {
+    read(rt, alloc, text, 65_536, 1_000_000).err()
+}
+
+/// The axioms of a document, as they are shown.
+fn axioms_of(rt: &impl Abort, alloc: Global, text: &str) -> String {
+    let document = read(rt, alloc, text.as_bytes(), 3, 1_000_000).expect(rt, "a document");
+    let shown = format!(in alloc; "{:?}", document.axioms.items()).expect(rt, "memory");
+    drop(document);
+    shown
+}
+
+/// Whether these axioms, under the prefix `p`, are shown like this.
+fn are_shown(rt: &impl Abort, alloc: Global, axioms: &str, expected: &str) -> bool {
+    let text = format!(in alloc; "Prefix(p:=<x:>) Ontology({axioms})").expect(rt, "memory");
+    axioms_of(rt, alloc, text.as_str()).as_str() == expected
 }
 
 #[test]
-fn each_axiom_is_read_as_the_standard_means_it(rt: HostRuntime) -> Result<(), Fail> {
+fn each_axiom_is_read_as_the_standard_means_it(rt: HostRuntime) {
     let rows = [
         ("SubClassOf(p:A owl:Thing)", "[SubClass(Name(2), Name(0))]"),
         (
@@ -53,16 +70,19 @@ fn each_axiom_is_read_as_the_standard_means_it(rt: HostRuntime) -> Result<(), Fa
         ("AnnotationAssertion(p:a _:b _:c)", "[]"),
     ];
     for (axioms, expected) in rows {
-        let text = format!(in rt.alloc(); "Prefix(p:=<x:>) Ontology({axioms})")?;
-        let document = read(rt.alloc(), text.as_bytes(), 3, 1_000_000)??;
-        let shown = format!(in rt.alloc(); "{:?}", document.axioms.items())?;
-        assert_eq!(rt; shown.as_str(), expected, "{axioms}");
+        assert!(rt; are_shown(&rt, rt.alloc(), axioms, expected), "{axioms}");
     }
-    Ok(())
+}
+
+/// Whether this class expression, which A is below, is shown like this.
+fn is_shown(rt: &impl Abort, alloc: Global, expression: &str, expected: &str) -> bool {
+    let text = format!(in alloc; "Ontology(SubClassOf(<x:A> {expression}))").expect(rt, "memory");
+    let wanted = format!(in alloc; "[SubClass(Name(2), {expected})]").expect(rt, "memory");
+    axioms_of(rt, alloc, text.as_str()).as_str() == wanted.as_str()
 }
 
 #[test]
-fn each_class_expression_is_read_as_the_standard_means_it(rt: HostRuntime) -> Result<(), Fail> {
+fn each_class_expression_is_read_as_the_standard_means_it(rt: HostRuntime) {
     let rows = [
         (
             "ObjectIntersectionOf(<x:B>)",
@@ -86,20 +106,25 @@ fn each_class_expression_is_read_as_the_standard_means_it(rt: HostRuntime) -> Re
         ),
     ];
     for (expression, expected) in rows {
-        let text = format!(in rt.alloc(); "Ontology(SubClassOf(<x:A> {expression}))")?;
-        let document = read(rt.alloc(), text.as_bytes(), 3, 1_000_000)??;
-        let shown = format!(in rt.alloc(); "{:?}", document.axioms.items())?;
-        let wanted = format!(in rt.alloc(); "[SubClass(Name(2), {expected})]")?;
-        assert_eq!(rt; shown.as_str(), wanted.as_str(), "{expression}");
+        assert!(rt;
+            is_shown(&rt, rt.alloc(), expression, expected),
+            "{expression}"
+        );
     }
-    Ok(())
+}
+
+/// Whether the axiom is read with annotations at its `_`.
+fn is_read_with_annotations(rt: &impl Abort, alloc: Global, axiom: &str) -> bool {
+    let note =
+        "Annotation(Annotation(rdfs:seeAlso _:n) rdfs:label \"a\"@en) Annotation(rdfs:label \"b\"^^xsd:string)";
+    let noted = axiom.replace(alloc, "_", note).expect(rt, "memory");
+    let text = format!(in alloc; "Ontology(<x:o> {noted})").expect(rt, "memory");
+    refusal_of(rt, alloc, text.as_bytes()).is_none()
 }
 
 #[test]
-fn annotations_stand_wherever_the_standard_has_them(rt: HostRuntime) -> Result<(), Fail> {
-    let note =
-        "Annotation(Annotation(rdfs:seeAlso _:n) rdfs:label \"a\"@en) Annotation(rdfs:label \"b\"^^xsd:string)";
-    for axiom in [
+fn annotations_stand_wherever_the_standard_has_them(rt: HostRuntime) {
+    let axioms = [
         "_",
         "Declaration(_ Class(<x:A>))",
         "SubClassOf(_ <x:A> <x:B>)",
@@ -114,35 +139,47 @@ fn annotations_stand_wherever_the_standard_has_them(rt: HostRuntime) -> Result<(
         "SubAnnotationPropertyOf(_ <x:a> <x:b>)",
         "AnnotationPropertyDomain(_ <x:a> <x:A>)",
         "AnnotationPropertyRange(_ <x:a> <x:A>)",
-    ] {
-        let noted = axiom.replace(rt.alloc(), "_", note)?;
-        let text = format!(in rt.alloc(); "Ontology(<x:o> {noted})")?;
-        assert_eq!(rt; refusal_of(rt.alloc(), text.as_bytes())?, None, "{axiom}");
+    ];
+    for axiom in axioms {
+        assert!(rt; is_read_with_annotations(&rt, rt.alloc(), axiom), "{axiom}");
     }
-    Ok(())
+}
+
+/// Whether the text has this fault first.
+fn has_fault(rt: &impl Abort, alloc: Global, text: &[u8], fault: Refusal) -> bool {
+    refusal_of(rt, alloc, text) == Some(ReadRefusal::Refused(fault))
+}
+
+/// What stands before the word of a refused construct where it could be meant.
+fn front_of(number: u8) -> &'static str {
+    match number {
+        2 | 3 | 45 | 46 => "Ontology(SubObjectPropertyOf(<x:R> ",
+        13..=29 => "Ontology(SubClassOf(<x:A> ",
+        _ => "Ontology(",
+    }
+}
+
+/// A text with the refused construct of this number behind the front.
+fn with_construct(rt: &impl Abort, alloc: Global, front: &str, number: u8) -> Vec<u8> {
+    let word = word_text(number).unwrap_or(b"");
+    let mut text = front.as_bytes().to_vec(alloc).expect(rt, "memory");
+    text.extend_from_slice(word).expect(rt, "memory");
+    text.extend_from_slice(b"(<x:B>)))").expect(rt, "memory");
+    text
 }
 
 #[test]
-fn each_refused_construct_is_named_with_its_place(rt: HostRuntime) -> Result<(), Fail> {
+fn each_refused_construct_is_named_with_its_place(rt: HostRuntime) {
     for number in 1u8..=46 {
-        let front = match number {
-            2 | 3 | 45 | 46 => "Ontology(SubObjectPropertyOf(<x:R> ",
-            13..=29 => "Ontology(SubClassOf(<x:A> ",
-            _ => "Ontology(",
-        };
-        let word = word_text(number).unwrap_or(b"");
-        let mut text = front.as_bytes().to_vec(rt.alloc())?;
-        text.extend_from_slice(word)?;
-        text.extend_from_slice(b"(<x:B>)))")?;
-        let place = front.len() as u64;
-        let expected = ReadRefusal::Refused(Refusal::Construct(number, place));
-        assert_eq!(rt; refusal_of(rt.alloc(), &text)?, Some(expected), "{number}");
+        let front = front_of(number);
+        let text = with_construct(&rt, rt.alloc(), front, number);
+        let fault = Refusal::Construct(number, front.len() as u64);
+        assert!(rt; has_fault(&rt, rt.alloc(), &text, fault), "{number}");
     }
-    Ok(())
 }
 
 #[test]
-fn the_first_fault_is_told_with_its_kind_and_place(rt: HostRuntime) -> Result<(), Fail> {
+fn the_first_fault_is_told_with_its_kind_and_place(rt: HostRuntime) {
     let rows = [
         (
             "Ontology(SubClassOf(<x:A> ObjectInverseOf(<x:R>)))",
@@ -177,113 +214,76 @@ fn the_first_fault_is_told_with_its_kind_and_place(rt: HostRuntime) -> Result<()
             Refusal::Syntax(40),
         ),
     ];
-    for (text, refusal) in rows {
-        let found = refusal_of(rt.alloc(), text.as_bytes())?;
-        assert_eq!(rt; found, Some(ReadRefusal::Refused(refusal)), "{text}");
+    for (text, fault) in rows {
+        assert!(rt;
+            has_fault(&rt, rt.alloc(), text.as_bytes(), fault),
+            "{text}"
+        );
     }
-    Ok(())
 }
 
-/// `levels` times the front, the middle, and `levels` times the back.
+/// The front, `levels` times `open`, the middle, `levels` times `close`, and the back.
 fn nested(
+    rt: &impl Abort,
     alloc: Global,
     levels: usize,
-    front: &str,
-    middle: &str,
-    back: &str,
-) -> Result<Vec<u8>, Fail> {
-    let mut text = Vec::new(alloc);
-    for _ in 0..levels {
-        text.extend_from_slice(front.as_bytes())?;
-    }
-    text.extend_from_slice(middle.as_bytes())?;
-    for _ in 0..levels {
-        text.extend_from_slice(back.as_bytes())?;
-    }
-    Ok(text)
+    ends: (&str, &str, &str),
+    open: &str,
+    close: &str,
+) -> String {
+    let (front, middle, back) = ends;
+    let opened = open.repeat(alloc, levels).expect(rt, "memory");
+    let closed = close.repeat(alloc, levels).expect(rt, "memory");
+    format!(in alloc; "{front}{opened}{middle}{closed}{back}").expect(rt, "memory")
+}
+
+/// A class expression with so many constructors inside each other.
+fn nested_constructors(rt: &impl Abort, alloc: Global, levels: usize) -> String {
+    let ends = ("Ontology(SubClassOf(<x:A> ", "<x:B>", "))");
+    nested(rt, alloc, levels, ends, "ObjectComplementOf(", ")")
+}
+
+/// An annotation with so many others inside each other.
+fn nested_annotations(rt: &impl Abort, alloc: Global, levels: usize) -> String {
+    let ends = ("Ontology(", "Annotation(rdfs:label \"a\"", "))");
+    nested(rt, alloc, levels, ends, "Annotation(", ") rdfs:label \"a\"")
 }
 
 #[test]
-fn at_most_256_constructors_and_annotations_stand_inside_each_other(
-    rt: HostRuntime,
-) -> Result<(), Fail> {
-    let expressions = (
-        "Ontology(SubClassOf(<x:A> ",
-        "ObjectComplementOf(",
-        "<x:B>",
-        ")",
-        "))",
-    );
-    let annotations = (
-        "Ontology(",
-        "Annotation(",
-        "rdfs:label \"a\"",
-        ") rdfs:label \"a\"",
-        "))",
-    );
-    for (levels, first, second) in [(256usize, None, None), (257, Some(4890u64), Some(2825u64))] {
-        let mut text = expressions.0.as_bytes().to_vec(rt.alloc())?;
-        text.extend_from_slice(&nested(
-            rt.alloc(),
-            levels,
-            expressions.1,
-            expressions.2,
-            expressions.3,
-        )?)?;
-        text.extend_from_slice(expressions.4.as_bytes())?;
-        let found = refusal_of(rt.alloc(), &text)?;
-        assert_eq!(rt;
-            found,
-            first.map(|place| ReadRefusal::Refused(Refusal::Depth(place))),
-            "{levels}"
-        );
-        let mut text = annotations.0.as_bytes().to_vec(rt.alloc())?;
-        text.extend_from_slice(&nested(
-            rt.alloc(),
-            levels - 1,
-            annotations.1,
-            "Annotation(rdfs:label \"a\"",
-            annotations.3,
-        )?)?;
-        text.extend_from_slice(annotations.4.as_bytes())?;
-        let found = refusal_of(rt.alloc(), &text)?;
-        assert_eq!(rt;
-            found,
-            second.map(|place| ReadRefusal::Refused(Refusal::Depth(place))),
-            "{levels}"
-        );
-    }
-    Ok(())
+fn at_most_256_constructors_stand_inside_each_other(rt: HostRuntime) {
+    let most = nested_constructors(&rt, rt.alloc(), 256);
+    assert!(rt; refusal_of(&rt, rt.alloc(), most.as_bytes()).is_none());
+    let more = nested_constructors(&rt, rt.alloc(), 257);
+    assert!(rt; has_fault(&rt, rt.alloc(), more.as_bytes(), Refusal::Depth(4890)));
 }
 
 #[test]
-fn an_input_past_the_limit_is_too_long_whatever_it_says(rt: HostRuntime) -> Result<(), Fail> {
-    for (text, most, expected) in [
-        ("Ontology(SubClassOf(<x:A> <x:B>))", 33, None),
-        (
-            "Ontology(SubClassOf(<x:A> <x:B>))",
-            32,
-            Some(Refusal::TooLong(33)),
-        ),
-        (
-            "Ontology(SubClassOf(<x:A> <x:B>))",
-            5,
-            Some(Refusal::TooLong(6)),
-        ),
-        (
-            ")Ontology(SubClassOf(<x:A> <x:B>))",
-            5,
-            Some(Refusal::TooLong(6)),
-        ),
-    ] {
-        let found = read(rt.alloc(), text.as_bytes(), 4, most)?.err();
-        assert_eq!(rt;
-            found,
-            expected.map(|refusal| ReadRefusal::Refused(refusal)),
-            "{most}"
-        );
-    }
-    Ok(())
+fn at_most_256_annotations_stand_inside_each_other(rt: HostRuntime) {
+    let most = nested_annotations(&rt, rt.alloc(), 255);
+    assert!(rt; refusal_of(&rt, rt.alloc(), most.as_bytes()).is_none());
+    let more = nested_annotations(&rt, rt.alloc(), 256);
+    assert!(rt; has_fault(&rt, rt.alloc(), more.as_bytes(), Refusal::Depth(2825)));
+}
+
+/// Whether a limit of `most` bytes has the text told as too long, after this many bytes.
+fn is_too_long(rt: &impl Abort, alloc: Global, text: &str, most: u64, came: u64) -> bool {
+    let found = read(rt, alloc, text.as_bytes(), 4, most).err();
+    found == Some(ReadRefusal::Refused(Refusal::TooLong(came)))
+}
+
+#[test]
+fn an_input_past_the_limit_is_too_long_whatever_it_says(rt: HostRuntime) {
+    let text = "Ontology(SubClassOf(<x:A> <x:B>))";
+    assert!(rt; is_too_long(&rt, rt.alloc(), text, 32, 33));
+    assert!(rt; is_too_long(&rt, rt.alloc(), text, 5, 6));
+    let faulty = ")Ontology(SubClassOf(<x:A> <x:B>))";
+    assert!(rt; is_too_long(&rt, rt.alloc(), faulty, 5, 6));
+}
+
+#[test]
+fn an_input_as_long_as_the_limit_is_read(rt: HostRuntime) {
+    let text = "Ontology(SubClassOf(<x:A> <x:B>))";
+    assert!(rt; read(&rt, rt.alloc(), text.as_bytes(), 4, 33).is_ok());
 }
 
 /// A document of every construct, by lines, and below each line what a cut shows: behind `|` the bytes up to the last `-` can't stand
@@ -331,31 +331,47 @@ const EVERY_CONSTRUCT: [(&str, &str); 10] = [
     ),
 ];
 
-#[test]
-fn a_document_cut_anywhere_is_at_fault_where_the_cut_shows(rt: HostRuntime) -> Result<(), Fail> {
-    let mut text = Vec::new(rt.alloc());
-    let mut marks = Vec::new(rt.alloc());
+/// The text of the document by lines, and what stands below it.
+fn every_construct(rt: &impl Abort, alloc: Global) -> (Vec<u8>, Vec<u8>) {
+    let mut text = Vec::new(alloc);
+    let mut marks = Vec::new(alloc);
     for (line, below) in EVERY_CONSTRUCT {
-        text.extend_from_slice(line.as_bytes())?;
-        text.push(b'\n')?;
-        marks.extend_from_slice(below.as_bytes())?;
-        marks.push(b'.')?;
+        text.extend_from_slice(line.as_bytes()).expect(rt, "memory");
+        text.push(b'\n').expect(rt, "memory");
+        marks
+            .extend_from_slice(below.as_bytes())
+            .expect(rt, "memory");
+        marks.push(b'.').expect(rt, "memory");
     }
+    (text, marks)
+}
+
+/// Whether the document is at fault at this place where it ends before the cut.
+fn is_cut(rt: &impl Abort, alloc: Global, text: &[u8], cut: usize, place: usize) -> bool {
+    let front = text.get(..cut).unwrap_or(&[]);
+    has_fault(rt, alloc, front, Refusal::Syntax(place as u64))
+}
+
+#[test]
+fn a_document_cut_anywhere_is_at_fault_where_the_cut_shows(rt: HostRuntime) {
+    let (text, marks) = every_construct(&rt, rt.alloc());
     let mut begun = 0;
     for (cut, mark) in marks.iter().enumerate() {
         if *mark == b'|' {
             begun = cut;
         }
         let place = if *mark == b'-' { begun } else { cut };
-        let expected = if cut + 1 == marks.len() {
-            None
-        } else {
-            Some(ReadRefusal::Refused(Refusal::Syntax(place as u64)))
-        };
-        let front = text.get(..cut).unwrap_or(&[]);
-        assert_eq!(rt; refusal_of(rt.alloc(), front)?, expected, "{cut}");
+        if cut + 1 < marks.len() {
+            assert!(rt; is_cut(&rt, rt.alloc(), &text, cut, place), "{cut}");
+        }
     }
-    Ok(())
+}
+
+#[test]
+fn a_document_without_its_last_line_break_is_read(rt: HostRuntime) {
+    let (text, _) = every_construct(&rt, rt.alloc());
+    let front = text.split_last().expect(&rt, "a document").1;
+    assert!(rt; refusal_of(&rt, rt.alloc(), front).is_none());
 }
 
 /// As the OWL API writes it.
@@ -410,15 +426,20 @@ const ZOO: [&str; 48] = [
     ")\n",
 ];
 
-#[test]
-fn a_document_as_the_owl_api_writes_it_is_read(rt: HostRuntime) -> Result<(), Fail> {
-    let mut text = Vec::new(rt.alloc());
+/// The document.
+fn zoo(rt: &impl Abort, alloc: Global) -> Document {
+    let mut text = Vec::new(alloc);
     for line in ZOO {
-        text.extend_from_slice(line.as_bytes())?;
+        text.extend_from_slice(line.as_bytes()).expect(rt, "memory");
     }
-    let document = read(rt.alloc(), &text, 100, 1_000_000)??;
+    read(rt, alloc, &text, 100, 1_000_000).expect(rt, "a document")
+}
+
+#[test]
+fn a_document_as_the_owl_api_writes_it_is_read(rt: HostRuntime) {
+    let document = zoo(&rt, rt.alloc());
     assert_eq!(rt; document.axioms.items().len(), 11);
     assert_eq!(rt; document.classes.items().len(), 10);
     assert_eq!(rt; document.roles.items().len(), 2);
-    Ok(())
+    drop(document);
 }

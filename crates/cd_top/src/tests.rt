@@ -1,4 +1,8 @@
 //! Worked inputs through the whole command, over memory. Expected texts are written by hand.
+//! What has many parts is let go of by `drop`, which the prover takes as one step.
+ghost use Rattle.std.specs.Prelude.{◌+◌, ◌*◌, ◌-◌, ◌^◌, ◌<◌, length};
+ghost use Rattle.cd_meaning.specs.Nodes.{nodes};
+
 use crate::answers::answers;
 use crate::small_ontologies::SMALL_ONTOLOGIES;
 use crate::{Status, classify_here, run};
@@ -6,10 +10,11 @@ use cd_base::{LimitKind, Limits};
 use cd_grammar::read_document;
 use cd_index::{Closure, Index};
 use cd_io::{MemSink, MemSource, Source};
+use cd_meaning::Document;
 use cd_normal::normalise;
-use cd_taxonomy::{taxonomy, text};
+use cd_taxonomy::{Group, taxonomy, text};
 use std::alloc::Global;
-use std::test::Fail;
+use std::process::Abort;
 
 const ONE_SUBSUMPTION: &str = "Ontology(SubClassOf(<x:A> <x:B>))";
 
@@ -42,28 +47,66 @@ fn count_left(source: &mut MemSource) -> usize {
     total
 }
 
-/// Runs the command words, given as one text, on an input that comes at once, with ample room.
-fn run_over_memory(alloc: Global, words: &str, input: &str) -> Result<Ended, Fail> {
-    let mut source = MemSource::new(input.as_bytes().to_vec(alloc)?, 1_000, Vec::new(alloc));
-    let mut out = MemSink::new(alloc, 1_000, 1_000, Vec::new(alloc))?;
-    let mut notes = MemSink::new(alloc, 1_000, 1_000, Vec::new(alloc))?;
+/// The input, which comes in reads of `piece` bytes.
+fn source_of(rt: &impl Abort, alloc: Global, input: &str, piece: usize) -> MemSource {
+    let bytes = input.as_bytes().to_vec(alloc).expect(rt, "memory");
+    MemSource::new(bytes, piece.max(1), Vec::new(alloc))
+}
+
+/// A sink with this room.
+fn sink_of(rt: &impl Abort, alloc: Global, room: usize) -> MemSink {
+    MemSink::new(alloc, room, 1_000, Vec::new(alloc)).expect(rt, "memory")
+}
+
+/// The words that stand in a text.
+fn words_of(rt: &impl Abort, alloc: Global, text: &str) -> Vec<String> {
     let mut list = Vec::new(alloc);
-    for word in words.split_whitespace() {
-        list.push(String::from_str(alloc, word)?)?;
+    for word in text.split_whitespace() {
+        let word = String::from_str(alloc, word).expect(rt, "memory");
+        list.push(word).expect(rt, "memory");
     }
+    list
+}
+
+/// Runs the command words, given as one text, on an input that comes at once, with ample room for the answer and this room for notes.
+fn run_with_room(rt: &impl Abort, alloc: Global, words: &str, input: &str, room: usize) -> Ended {
+    let list = words_of(rt, alloc, words);
+    let mut source = source_of(rt, alloc, input, 1_000);
+    let mut out = sink_of(rt, alloc, 1_000);
+    let mut notes = sink_of(rt, alloc, room);
     let status = run(alloc, &list, &mut source, &mut out, &mut notes);
     let unread = count_left(&mut source);
-    Ok(Ended {
+    drop(source);
+    drop(list);
+    Ended {
         status,
         out,
         notes,
         unread,
-    })
+    }
+}
+
+/// Runs the command words, given as one text, on an input that comes at once, with ample room.
+fn run_over_memory(rt: &impl Abort, alloc: Global, words: &str, input: &str) -> Ended {
+    run_with_room(rt, alloc, words, input, 1_000)
+}
+
+/// Whether a run has put these texts on its sinks, and nothing else.
+fn has_written(ran: &Ended, out: &str, notes: &str) -> bool {
+    ran.out.bytes() == out.as_bytes() && ran.notes.bytes() == notes.as_bytes()
+}
+
+/// Whether the command answers the input with this text, and says nothing else.
+fn is_answered(rt: &impl Abort, alloc: Global, input: &str, expected: &str) -> bool {
+    let ran = run_over_memory(rt, alloc, "classify", input);
+    let holds = ran.status == Status::Done && has_written(&ran, expected, "");
+    drop(ran);
+    holds
 }
 
 #[test]
-fn a_document_gives_the_taxonomy_that_it_entails(rt: HostRuntime) -> Result<(), Fail> {
-    let rows = [
+fn a_document_gives_the_taxonomy_that_it_entails(rt: HostRuntime) {
+    for (input, expected) in [
         ("Ontology()", "Ontology(\n)\n"),
         (ONE_SUBSUMPTION, ITS_TEXT),
         (
@@ -82,19 +125,14 @@ fn a_document_gives_the_taxonomy_that_it_entails(rt: HostRuntime) -> Result<(), 
             "Ontology(SubClassOf(<http://www.w3.org/2002/07/owl#Thing> <x:B>) SubClassOf(<x:A> <http://www.w3.org/2002/07/owl#Nothing>))",
             "Ontology(\nEquivalentClasses(<http://www.w3.org/2002/07/owl#Nothing> <x:A>)\nEquivalentClasses(<http://www.w3.org/2002/07/owl#Thing> <x:B>)\n)\n",
         ),
-    ];
-    for (input, expected) in rows {
-        let ran = run_over_memory(rt.alloc(), "classify", input)?;
-        assert_eq!(rt; ran.status, Status::Done, "{input}");
-        assert_eq!(rt; ran.out.bytes(), expected.as_bytes(), "{input}");
-        assert!(rt; ran.notes.bytes().is_empty(), "{input}");
+    ] {
+        assert!(rt; is_answered(&rt, rt.alloc(), input, expected), "{input}");
     }
-    Ok(())
 }
 
 #[test]
-fn real_syntax_gives_the_taxonomy_of_what_it_says(rt: HostRuntime) -> Result<(), Fail> {
-    let rows = [
+fn real_syntax_gives_the_taxonomy_of_what_it_says(rt: HostRuntime) {
+    for (input, expected) in [
         (
             "Prefix(p:=<x:>)Ontology(<x:o> #c\nSubClassOf(Annotation(rdfs:label \"a\\\"b\"@en) p:A p:B))",
             ITS_TEXT,
@@ -107,184 +145,184 @@ fn real_syntax_gives_the_taxonomy_of_what_it_says(rt: HostRuntime) -> Result<(),
             "Prefix(:=<x:>)\r\nOntology(<x:o> <x:v>\tAnnotationAssertion(rdfs:label :A \"a\"^^xsd:string) SubClassOf(:A :B) AnnotationPropertyDomain(:p :C) SubAnnotationPropertyOf(:p :q))",
             ITS_TEXT,
         ),
-    ];
-    for (input, expected) in rows {
-        let ran = run_over_memory(rt.alloc(), "classify", input)?;
-        assert_eq!(rt; ran.status, Status::Done, "{input}");
-        assert_eq!(rt; ran.out.bytes(), expected.as_bytes(), "{input}");
-        assert!(rt; ran.notes.bytes().is_empty(), "{input}");
+    ] {
+        assert!(rt; is_answered(&rt, rt.alloc(), input, expected), "{input}");
     }
-    Ok(())
 }
 
 /// The text with the whole names of the two classes that every ontology has.
-fn with_whole_names(alloc: Global, text: &str) -> Result<String, Fail> {
-    let thing = text.replace(alloc, "owl:Thing", "<http://www.w3.org/2002/07/owl#Thing>")?;
-    let both = thing.replace(
-        alloc,
-        "owl:Nothing",
-        "<http://www.w3.org/2002/07/owl#Nothing>",
-    )?;
-    Ok(both)
+fn with_whole_names(rt: &impl Abort, alloc: Global, text: &str) -> String {
+    let thing = "<http://www.w3.org/2002/07/owl#Thing>";
+    let nothing = "<http://www.w3.org/2002/07/owl#Nothing>";
+    let named = text.replace(alloc, "owl:Thing", thing).expect(rt, "memory");
+    named
+        .replace(alloc, "owl:Nothing", nothing)
+        .expect(rt, "memory")
 }
 
-/// Whether the command answers the input with this text, and says nothing else.
-fn is_answered(alloc: Global, input: &str, expected: &str) -> Result<bool, Fail> {
-    let ran = run_over_memory(alloc, "classify", input)?;
-    let text = with_whole_names(alloc, expected)?;
-    Ok(
-        ran.status == Status::Done
-            && ran.out.bytes() == text.as_bytes()
-            && ran.notes.bytes().is_empty(),
-    )
+/// Whether the command answers the input with this text, once its names are whole.
+fn is_answered_in_short(rt: &impl Abort, alloc: Global, input: &str, expected: &str) -> bool {
+    let text = with_whole_names(rt, alloc, expected);
+    is_answered(rt, alloc, input, text.as_str())
 }
 
 #[test]
-fn small_ontologies_have_the_taxonomies_that_all_their_interpretations_give(
-    rt: HostRuntime,
-) -> Result<(), Fail> {
+fn small_ontologies_have_the_taxonomies_that_all_their_interpretations_give(rt: HostRuntime) {
     for (input, expected) in SMALL_ONTOLOGIES {
-        assert!(rt; is_answered(rt.alloc(), input, expected)?, "{input}");
+        assert!(rt;
+            is_answered_in_short(&rt, rt.alloc(), input, expected),
+            "{input}"
+        );
     }
-    Ok(())
 }
 
 /// A subsumption under so many nested complements.
-fn nested_text(alloc: Global, depth: usize) -> Result<String, Fail> {
-    let open = "ObjectComplementOf(".repeat(alloc, depth)?;
-    let close = ")".repeat(alloc, depth)?;
-    let text = format!(in alloc; "Ontology(SubClassOf(<x:A> {open}<x:B>{close}))")?;
-    Ok(text)
+fn nested_text(rt: &impl Abort, alloc: Global, depth: usize) -> String {
+    let open = "ObjectComplementOf("
+        .repeat(alloc, depth)
+        .expect(rt, "memory");
+    let close = ")".repeat(alloc, depth).expect(rt, "memory");
+    format!(in alloc; "Ontology(SubClassOf(<x:A> {open}<x:B>{close}))").expect(rt, "memory")
 }
 
 #[test]
-fn the_deepest_nesting_is_answered(rt: HostRuntime) -> Result<(), Fail> {
-    let text = nested_text(rt.alloc(), 256)?;
-    assert!(rt;
-        is_answered(
-            rt.alloc(),
-            text.as_str(),
-            "Ontology(\nSubClassOf(<x:A> <x:B>)\nSubClassOf(<x:B> owl:Thing)\n)\n"
-        )?
-    );
-    Ok(())
+fn the_deepest_nesting_is_answered(rt: HostRuntime) {
+    let text = nested_text(&rt, rt.alloc(), 256);
+    assert!(rt; is_answered(&rt, rt.alloc(), text.as_str(), ITS_TEXT));
 }
 
 /// Three contexts of classes and one of an existential, at least.
 const SOME_OF_A_UNION: &str =
     "Ontology(SubClassOf(<x:A> ObjectSomeValuesFrom(<x:R> ObjectUnionOf(<x:B> <x:C>))) SubClassOf(ObjectSomeValuesFrom(<x:R> <x:B>) <x:D>) SubClassOf(ObjectSomeValuesFrom(<x:R> <x:C>) <x:D>))";
 
-/// How a run over the input ends with these maxima, and what it puts on its sinks.
-fn run_with_maxima(
+/// How a run over the input ends under these limits, and what it puts on its sinks.
+fn classify_from(
+    rt: &impl Abort,
     alloc: Global,
-    input: &str,
-    cells: u32,
-    max_contexts: u64,
-    max_facts: u64,
-) -> Result<Ended, Fail> {
-    let limits = Limits::with(1, cells, 1_000, max_contexts, max_facts).ok_or("out of range")?;
-    let mut source = MemSource::new(input.as_bytes().to_vec(alloc)?, 7, Vec::new(alloc));
-    let mut out = MemSink::new(alloc, 1_000, 1_000, Vec::new(alloc))?;
-    let mut notes = MemSink::new(alloc, 1_000, 1_000, Vec::new(alloc))?;
-    let status = classify_here(alloc, &mut source, &mut out, &mut notes, &limits);
+    mut source: MemSource,
+    mut out: MemSink,
+    limits: &Limits,
+) -> Ended {
+    let mut notes = sink_of(rt, alloc, 1_000);
+    let status = classify_here(alloc, &mut source, &mut out, &mut notes, limits);
     let unread = count_left(&mut source);
-    Ok(Ended {
+    drop(source);
+    Ended {
         status,
         out,
         notes,
         unread,
-    })
+    }
 }
 
-/// Whether a run with these maxima has reached one of this kind, at a count of `least` or more, and has written its line alone.
-fn has_reached(
-    alloc: Global,
-    kind: LimitKind,
-    max_contexts: u64,
-    max_facts: u64,
-    least: u64,
-) -> Result<bool, Fail> {
-    let ran = run_with_maxima(alloc, SOME_OF_A_UNION, 3, max_contexts, max_facts)?;
+/// How a run over `SOME_OF_A_UNION` ends with these maxima, and what it puts on its sinks.
+fn run_with_maxima(rt: &impl Abort, alloc: Global, max_contexts: u64, max_facts: u64) -> Ended {
+    let limits = Limits::with(1, 3, 1_000, max_contexts, max_facts).expect(rt, "limits in range");
+    let source = source_of(rt, alloc, SOME_OF_A_UNION, 7);
+    let out = sink_of(rt, alloc, 1_000);
+    classify_from(rt, alloc, source, out, &limits)
+}
+
+/// The line of a maximum that was reached at this count.
+fn limit_line(rt: &impl Abort, alloc: Global, kind: LimitKind, count: u64) -> String {
+    let counted = match kind {
+        LimitKind::Contexts => "contexts",
+        LimitKind::Facts => "facts",
+    };
+    format!(in alloc; "condor: limit on {counted} reached at {count}\n").expect(rt, "memory")
+}
+
+/// Whether a run has reached a maximum of this kind, at a count of `least` or more, and has written its line alone.
+fn has_reached(rt: &impl Abort, alloc: Global, ran: Ended, kind: LimitKind, least: u64) -> bool {
     let Status::Limit(reached, count) = ran.status else {
-        return Ok(false);
+        drop(ran);
+        return false;
     };
-    let line = match kind {
-        LimitKind::Contexts => {
-            format!(in alloc; "condor: limit on contexts reached at {count}\n")?
-        }
-        LimitKind::Facts => format!(in alloc; "condor: limit on facts reached at {count}\n")?,
-    };
-    Ok(
-        reached == kind
-            && least <= count
-            && ran.status.code() == 3
-            && ran.out.bytes().is_empty()
-            && ran.notes.bytes() == line.as_bytes(),
-    )
+    let line = limit_line(rt, alloc, kind, count);
+    let told = ran.status.code() == 3 && has_written(&ran, "", line.as_str());
+    drop(ran);
+    told && reached == kind && least <= count
 }
 
 #[test]
-fn a_maximum_that_is_reached_is_told_with_its_count(rt: HostRuntime) -> Result<(), Fail> {
-    let alloc = rt.alloc();
-    assert!(rt; has_reached(alloc, LimitKind::Contexts, 4, 1_000, 4)?);
-    assert!(rt; has_reached(alloc, LimitKind::Contexts, 1, 1, 1)?);
-    assert!(rt; has_reached(alloc, LimitKind::Facts, 1_000, 5, 5)?);
-    let ran = run_with_maxima(alloc, SOME_OF_A_UNION, 3, 1_000, 1_000)?;
-    assert_eq!(rt; ran.status, Status::Done);
-    Ok(())
+fn a_maximum_of_contexts_that_is_reached_is_told_with_its_count(rt: HostRuntime) {
+    let fourth = run_with_maxima(&rt, rt.alloc(), 4, 1_000);
+    assert!(rt; has_reached(&rt, rt.alloc(), fourth, LimitKind::Contexts, 4));
+    let first = run_with_maxima(&rt, rt.alloc(), 1, 1);
+    assert!(rt; has_reached(&rt, rt.alloc(), first, LimitKind::Contexts, 1));
 }
 
 #[test]
-fn a_refused_document_names_what_is_wrong_and_where(rt: HostRuntime) -> Result<(), Fail> {
-    let nested = "ObjectComplementOf(".repeat(rt.alloc(), 257)?;
-    let deep = format!(in rt.alloc(); "Ontology(SubClassOf(<x:A> {nested}")?;
-    for (input, code, line) in [
+fn a_maximum_of_facts_that_is_reached_is_told_with_its_count(rt: HostRuntime) {
+    let fifth = run_with_maxima(&rt, rt.alloc(), 1_000, 5);
+    assert!(rt; has_reached(&rt, rt.alloc(), fifth, LimitKind::Facts, 5));
+}
+
+#[test]
+fn a_run_that_reaches_no_maximum_is_done(rt: HostRuntime) {
+    let ran = run_with_maxima(&rt, rt.alloc(), 1_000, 1_000);
+    assert!(rt; ran.status == Status::Done);
+    drop(ran);
+}
+
+/// Whether the command refuses the input with this line, and answers nothing.
+fn is_refused(rt: &impl Abort, alloc: Global, input: &str, line: &str) -> bool {
+    let ran = run_over_memory(rt, alloc, "classify", input);
+    let holds = ran.status.code() == 1 && has_written(&ran, "", line);
+    drop(ran);
+    holds
+}
+
+#[test]
+fn a_refused_document_names_what_is_wrong_and_where(rt: HostRuntime) {
+    for (input, line) in [
         (
             "Ontology(SubClassOf(<x:A> ObjectInverseOf(<x:R>)))",
-            1,
             "condor: construct ObjectInverseOf at byte 26\n",
         ),
         (
             "Ontology(SubClassOf(p:A <x:B>))",
-            1,
             "condor: prefix at byte 20\n",
         ),
         (
             "Ontology(SubClassOf(<x:A> <x:B>)",
-            1,
             "condor: syntax at byte 32\n",
         ),
-        (
-            "Prefix(owl:=<x:>)Ontology()",
-            1,
-            "condor: prefix at byte 12\n",
-        ),
+        ("Prefix(owl:=<x:>)Ontology()", "condor: prefix at byte 12\n"),
         (
             "Ontology(Annotation(rdfs:label \"a)",
-            1,
             "condor: syntax at byte 31\n",
         ),
         (
             "Ontology(SubObjectPropertyOf(<x:R> owl:topObjectProperty))",
-            1,
             "condor: construct owl:topObjectProperty at byte 35\n",
         ),
-        (
-            deep.as_str(),
-            1,
-            "condor: nesting deeper than 256 at byte 4890\n",
-        ),
     ] {
-        let ran = run_over_memory(rt.alloc(), "classify", input)?;
-        assert_eq!(rt; ran.status.code(), code, "{input}");
-        assert!(rt; ran.out.bytes().is_empty(), "{input}");
-        assert_eq!(rt; ran.notes.bytes(), line.as_bytes(), "{input}");
+        assert!(rt; is_refused(&rt, rt.alloc(), input, line), "{input}");
     }
-    Ok(())
 }
 
 #[test]
-fn other_words_read_nothing_and_name_the_usage(rt: HostRuntime) -> Result<(), Fail> {
+fn a_document_that_is_nested_too_deeply_is_refused(rt: HostRuntime) {
+    let nested = "ObjectComplementOf("
+        .repeat(rt.alloc(), 257)
+        .expect(&rt, "memory");
+    let deep = format!(in rt.alloc(); "Ontology(SubClassOf(<x:A> {nested}").expect(&rt, "memory");
+    let line = "condor: nesting deeper than 256 at byte 4890\n";
+    assert!(rt; is_refused(&rt, rt.alloc(), deep.as_str(), line));
+}
+
+/// Whether the words name the usage alone, and leave the input as it was.
+fn is_usage(rt: &impl Abort, alloc: Global, words: &str) -> bool {
+    let ran = run_over_memory(rt, alloc, words, ONE_SUBSUMPTION);
+    let holds = ran.status.code() == 2 && has_written(&ran, "", USAGE);
+    let unread = ran.unread;
+    drop(ran);
+    holds && unread == ONE_SUBSUMPTION.len()
+}
+
+#[test]
+fn other_words_read_nothing_and_name_the_usage(rt: HostRuntime) {
     for words in [
         "",
         "classify classify",
@@ -296,28 +334,21 @@ fn other_words_read_nothing_and_name_the_usage(rt: HostRuntime) -> Result<(), Fa
         "trial 0",
         "trial 20001",
     ] {
-        let ran = run_over_memory(rt.alloc(), words, ONE_SUBSUMPTION)?;
-        assert_eq!(rt; ran.status.code(), 2, "{words}");
-        assert!(rt; ran.out.bytes().is_empty(), "{words}");
-        assert_eq!(rt; ran.notes.bytes(), USAGE.as_bytes(), "{words}");
-        assert_eq!(rt; ran.unread, ONE_SUBSUMPTION.len(), "{words}");
+        assert!(rt; is_usage(&rt, rt.alloc(), words), "{words}");
     }
-    Ok(())
 }
 
 /// Whether the words give this text and nothing else, and leave the input as it was.
-fn is_tried(alloc: Global, words: &str, expected: &str) -> Result<bool, Fail> {
-    let ran = run_over_memory(alloc, words, ONE_SUBSUMPTION)?;
-    Ok(
-        ran.status == Status::Done
-            && ran.out.bytes() == expected.as_bytes()
-            && ran.notes.bytes().is_empty()
-            && ran.unread == ONE_SUBSUMPTION.len(),
-    )
+fn is_tried(rt: &impl Abort, alloc: Global, words: &str, expected: &str) -> bool {
+    let ran = run_over_memory(rt, alloc, words, ONE_SUBSUMPTION);
+    let holds = ran.status == Status::Done && has_written(&ran, expected, "");
+    let unread = ran.unread;
+    drop(ran);
+    holds && unread == ONE_SUBSUMPTION.len()
 }
 
 #[test]
-fn a_trial_counts_what_its_document_entails_and_reads_nothing(rt: HostRuntime) -> Result<(), Fail> {
+fn a_trial_counts_what_its_document_entails_and_reads_nothing(rt: HostRuntime) {
     // n levels have 4n + 4 classes in 3n + 4 groups, n classes that can have no member, and 4n + 1 direct superclasses.
     for (words, expected) in [
         (
@@ -333,167 +364,195 @@ fn a_trial_counts_what_its_document_entails_and_reads_nothing(rt: HostRuntime) -
             "names 4004\ngroups 3004\nunsatisfiable 1000\nlinks 4001\n",
         ),
     ] {
-        assert!(rt; is_tried(rt.alloc(), words, expected)?, "{words}");
+        assert!(rt; is_tried(&rt, rt.alloc(), words, expected), "{words}");
     }
-    Ok(())
 }
 
 /// Whether the words give nothing but the line of a maximum of contexts, with a count of `least` or more.
-fn stops_at_contexts(alloc: Global, words: &str, least: u64) -> Result<bool, Fail> {
-    let ran = run_over_memory(alloc, words, SOME_OF_A_UNION)?;
-    let Status::Limit(LimitKind::Contexts, count) = ran.status else {
-        return Ok(false);
-    };
-    let line = format!(in alloc; "condor: limit on contexts reached at {count}\n")?;
-    Ok(
-        least <= count
-            && ran.status.code() == 3
-            && ran.out.bytes().is_empty()
-            && ran.notes.bytes() == line.as_bytes(),
-    )
+fn stops_at_contexts(rt: &impl Abort, alloc: Global, words: &str, least: u64) -> bool {
+    let ran = run_over_memory(rt, alloc, words, SOME_OF_A_UNION);
+    has_reached(rt, alloc, ran, LimitKind::Contexts, least)
 }
 
 #[test]
-fn an_option_sets_the_maximum_that_stops_a_run(rt: HostRuntime) -> Result<(), Fail> {
+fn an_option_sets_the_maximum_that_stops_a_run(rt: HostRuntime) {
     for (words, least) in [
         ("classify --max-contexts 4", 4),
         ("classify --max-contexts 4 --workers 1", 4),
         ("trial 3 --max-contexts 16", 16),
     ] {
-        assert!(rt; stops_at_contexts(rt.alloc(), words, least)?, "{words}");
+        assert!(rt; stops_at_contexts(&rt, rt.alloc(), words, least), "{words}");
     }
-    Ok(())
+}
+
+/// The input of one subsumption in reads of ten bytes, of which the third fails.
+fn failing_source(rt: &impl Abort, alloc: Global) -> MemSource {
+    let bytes = ONE_SUBSUMPTION
+        .as_bytes()
+        .to_vec(alloc)
+        .expect(rt, "memory");
+    MemSource::new(bytes, 10, vec![in alloc; 2].expect(rt, "memory"))
+}
+
+/// A sink for writes of `piece` bytes, of which the call of this number fails.
+fn failing_sink(rt: &impl Abort, alloc: Global, piece: usize, number: u64) -> MemSink {
+    let fails = vec![in alloc; number].expect(rt, "memory");
+    MemSink::new(alloc, 1_000, piece.max(1), fails).expect(rt, "memory")
 }
 
 #[test]
-fn a_failing_read_or_write_is_told_and_leaves_a_front(rt: HostRuntime) -> Result<(), Fail> {
-    let alloc = rt.alloc();
-    let input = ONE_SUBSUMPTION.as_bytes();
-    // The third read fails, so no answer is written.
-    let mut source = MemSource::new(input.to_vec(alloc)?, 10, vec![in alloc; 2]?);
-    let mut out = MemSink::new(alloc, 1_000, 1_000, Vec::new(alloc))?;
-    let mut notes = MemSink::new(alloc, 1_000, 1_000, Vec::new(alloc))?;
-    let status = classify_here(
-        alloc,
-        &mut source,
-        &mut out,
-        &mut notes,
-        &Limits::standard(),
-    );
-    assert_eq!(rt; status.code(), 4);
-    assert!(rt; out.bytes().is_empty());
-    assert_eq!(rt; notes.bytes(), "condor: reading failed\n".as_bytes());
+fn a_failing_read_is_told_and_leaves_nothing(rt: HostRuntime) {
+    let source = failing_source(&rt, rt.alloc());
+    let out = sink_of(&rt, rt.alloc(), 1_000);
+    let ran = classify_from(&rt, rt.alloc(), source, out, &Limits::standard());
+    assert_eq!(rt; ran.status.code(), 4);
+    assert!(rt; has_written(&ran, "", "condor: reading failed\n"));
+    drop(ran);
+}
+
+#[test]
+fn a_failing_write_is_told_and_leaves_a_front(rt: HostRuntime) {
     // The third write fails after two of five bytes each.
-    let mut source = MemSource::new(input.to_vec(alloc)?, 10, Vec::new(alloc));
-    let mut out = MemSink::new(alloc, 1_000, 5, vec![in alloc; 2]?)?;
-    let mut notes = MemSink::new(alloc, 1_000, 1_000, Vec::new(alloc))?;
-    let status = classify_here(
-        alloc,
-        &mut source,
-        &mut out,
-        &mut notes,
-        &Limits::standard(),
-    );
-    assert_eq!(rt; status.code(), 5);
-    assert_eq!(rt; out.bytes(), "Ontology(\n".as_bytes());
-    assert_eq!(rt; notes.bytes(), "condor: writing failed\n".as_bytes());
-    // The text is written whole, and then handing it on fails.
-    let mut source = MemSource::new(input.to_vec(alloc)?, 10, Vec::new(alloc));
-    let mut out = MemSink::new(alloc, 1_000, 1_000, vec![in alloc; 1]?)?;
-    let mut notes = MemSink::new(alloc, 1_000, 1_000, Vec::new(alloc))?;
-    let status = classify_here(
-        alloc,
-        &mut source,
-        &mut out,
-        &mut notes,
-        &Limits::standard(),
-    );
-    assert_eq!(rt; status.code(), 5);
-    assert_eq!(rt; out.bytes(), ITS_TEXT.as_bytes());
-    Ok(())
+    let source = source_of(&rt, rt.alloc(), ONE_SUBSUMPTION, 10);
+    let out = failing_sink(&rt, rt.alloc(), 5, 2);
+    let ran = classify_from(&rt, rt.alloc(), source, out, &Limits::standard());
+    assert_eq!(rt; ran.status.code(), 5);
+    assert!(rt; has_written(&ran, "Ontology(\n", "condor: writing failed\n"));
+    drop(ran);
 }
 
 #[test]
-fn failing_notes_leave_the_status_as_it_is(rt: HostRuntime) -> Result<(), Fail> {
-    let alloc = rt.alloc();
-    let input = ONE_SUBSUMPTION.as_bytes();
-    for (words, code, expected, unread) in [
-        ("classify", 0, ITS_TEXT, 0),
-        ("classify classify", 2, "", 33),
-    ] {
-        let mut source = MemSource::new(input.to_vec(alloc)?, 10, Vec::new(alloc));
-        let mut out = MemSink::new(alloc, 1_000, 1_000, Vec::new(alloc))?;
-        // With no room every write fails.
-        let mut notes = MemSink::new(alloc, 0, 1_000, Vec::new(alloc))?;
-        let mut list = Vec::new(alloc);
-        for word in words.split_whitespace() {
-            list.push(String::from_str(alloc, word)?)?;
-        }
-        let status = run(alloc, &list, &mut source, &mut out, &mut notes);
-        assert_eq!(rt; status.code(), code, "{words}");
-        assert_eq!(rt; out.bytes(), expected.as_bytes(), "{words}");
-        assert!(rt; notes.bytes().is_empty(), "{words}");
-        assert_eq!(rt; count_left(&mut source), unread, "{words}");
-    }
-    Ok(())
+fn a_text_that_is_written_whole_but_not_handed_on_is_told(rt: HostRuntime) {
+    let source = source_of(&rt, rt.alloc(), ONE_SUBSUMPTION, 10);
+    let out = failing_sink(&rt, rt.alloc(), 1_000, 1);
+    let ran = classify_from(&rt, rt.alloc(), source, out, &Limits::standard());
+    assert_eq!(rt; ran.status.code(), 5);
+    assert!(rt; ran.out.bytes() == ITS_TEXT.as_bytes());
+    drop(ran);
+}
+
+/// Whether the words, where every note fails, end with this code and text, and leave so many bytes of the input.
+fn ends_without_notes(
+    rt: &impl Abort,
+    alloc: Global,
+    words: &str,
+    code: u8,
+    expected: &str,
+    unread: usize,
+) -> bool {
+    let ran = run_with_room(rt, alloc, words, ONE_SUBSUMPTION, 0);
+    let ended = ran.status.code() == code && ran.unread == unread;
+    let holds = ended && has_written(&ran, expected, "");
+    drop(ran);
+    holds
 }
 
 #[test]
-fn the_limit_on_bytes_takes_an_input_of_that_length(rt: HostRuntime) -> Result<(), Fail> {
-    let alloc = rt.alloc();
-    for (most, code, line) in [(32, 1, "condor: input longer than 32 bytes\n"), (33, 0, "")] {
-        let limits = Limits::with(1, 1, most, 100, 100).ok_or("the limits are in range")?;
-        let mut source = MemSource::new(
-            ONE_SUBSUMPTION.as_bytes().to_vec(alloc)?,
-            7,
-            Vec::new(alloc),
-        );
-        let mut out = MemSink::new(alloc, 1_000, 1_000, Vec::new(alloc))?;
-        let mut notes = MemSink::new(alloc, 1_000, 1_000, Vec::new(alloc))?;
-        let status = classify_here(alloc, &mut source, &mut out, &mut notes, &limits);
-        assert_eq!(rt; status.code(), code, "{most}");
-        assert_eq!(rt; notes.bytes(), line.as_bytes(), "{most}");
-    }
-    Ok(())
+fn failing_notes_leave_the_status_as_it_is(rt: HostRuntime) {
+    assert!(rt; ends_without_notes(&rt, rt.alloc(), "classify", 0, ITS_TEXT, 0));
+    assert!(rt; ends_without_notes(&rt, rt.alloc(), "classify classify", 2, "", 33));
+}
+
+/// Whether a run whose limit is `most` bytes ends with this code and this line.
+fn ends_at_most(rt: &impl Abort, alloc: Global, most: u64, code: u8, line: &str) -> bool {
+    let limits = Limits::with(1, 1, most, 100, 100).expect(rt, "limits in range");
+    let source = source_of(rt, alloc, ONE_SUBSUMPTION, 7);
+    let ran = classify_from(rt, alloc, source, sink_of(rt, alloc, 1_000), &limits);
+    let holds = ran.status.code() == code && ran.notes.bytes() == line.as_bytes();
+    drop(ran);
+    holds
 }
 
 #[test]
-fn the_groups_stand_in_the_order_of_their_names(rt: HostRuntime) -> Result<(), Fail> {
-    let alloc = rt.alloc();
-    let mut source = MemSource::new(
-        ONE_SUBSUMPTION.as_bytes().to_vec(alloc)?,
-        9,
-        Vec::new(alloc),
-    );
-    let document = read_document(alloc, &mut source, &Limits::standard())?;
-    let above = answers(alloc, &document, &Limits::standard())?;
-    let found = taxonomy(alloc, &document, &above)?;
-    // owl:Nothing, owl:Thing, A and B are the classes 1, 0, 2 and 3.
+fn the_limit_on_bytes_takes_an_input_of_that_length(rt: HostRuntime) {
+    let line = "condor: input longer than 32 bytes\n";
+    assert!(rt; ends_at_most(&rt, rt.alloc(), 32, 1, line));
+    assert!(rt; ends_at_most(&rt, rt.alloc(), 33, 0, ""));
+}
+
+/// Whether these are the groups of owl:Nothing, owl:Thing, A and B, which are the classes 1, 0, 2 and 3.
+fn are_the_groups(groups: &[Group]) -> bool {
     let members: [u32; 4] = [1, 0, 2, 3];
     let parents: [&[u32]; 4] = [&[2], &[], &[3], &[1]];
-    let groups = found.groups.items();
-    assert_eq!(rt; groups.len(), 4);
-    for (number, group) in groups.iter().enumerate() {
-        assert_eq!(rt; group.members.items(), &members[number..number + 1]);
-        assert_eq!(rt; group.parents.items(), parents[number]);
+    if groups.len() != 4 {
+        return false;
     }
-    let bytes = text(alloc, &document, &found)?;
-    assert_eq!(rt; bytes.as_slice(), ITS_TEXT.as_bytes());
-    Ok(())
+    for (number, group) in groups.iter().enumerate() {
+        if group.members.items() != &members[number..number + 1] {
+            return false;
+        }
+        if group.parents.items() != parents[number] {
+            return false;
+        }
+    }
+    true
+}
+
+/// Whether the taxonomy of the document has these groups and their text.
+fn has_the_groups(rt: &impl Abort, alloc: Global, document: &Document) -> bool
+    requires few { length document.now.classes + 6 * nodes document.now.axioms < 2 ^ 32 - 1 }
+{
+    let above = answers(alloc, document, &Limits::standard()).expect(rt, "answers");
+    let found = taxonomy(alloc, document, &above).expect(rt, "memory");
+    drop(above);
+    let bytes = text(alloc, document, &found).expect(rt, "memory");
+    let holds = are_the_groups(found.groups.items()) && bytes.as_slice() == ITS_TEXT.as_bytes();
+    drop(found);
+    holds
+}
+
+/// The document of a text.
+fn document_of(rt: &impl Abort, alloc: Global, text: Vec<u8>) -> Document
+    ensures { length result.classes + 6 * nodes result.axioms < 2 ^ 32 - 1 }
+{
+    let mut source = MemSource::new(text, 65_536, Vec::new(alloc));
+    let document = read_document(alloc, &mut source, &Limits::standard()).expect(rt, "a document");
+    drop(source);
+    document
+}
+
+#[test]
+fn the_groups_stand_in_the_order_of_their_names(rt: HostRuntime) {
+    let text = ONE_SUBSUMPTION
+        .as_bytes()
+        .to_vec(rt.alloc())
+        .expect(&rt, "memory");
+    let document = document_of(&rt, rt.alloc(), text);
+    assert!(rt; has_the_groups(&rt, rt.alloc(), &document));
+    drop(document);
 }
 
 /// The normal axioms of a text, indexed.
-fn index_of(alloc: Global, text: Vec<u8>) -> Result<Index, Fail> {
-    let mut source = MemSource::new(text, 65_536, Vec::new(alloc));
-    let document = read_document(alloc, &mut source, &Limits::standard())?;
-    let normal = normalise(alloc, &document)?;
-    let closure = Closure::of(alloc, normal.roles, normal.n5.items())?;
-    let index = Index::of(alloc, normal, closure)?;
-    Ok(index)
+fn index_of(rt: &impl Abort, alloc: Global, text: Vec<u8>) -> Index {
+    let document = document_of(rt, alloc, text);
+    let normal = normalise(alloc, &document).expect(rt, "memory");
+    drop(document);
+    let closure = Closure::of(alloc, normal.roles, normal.n5.items()).expect(rt, "memory");
+    Index::of(alloc, normal, closure).expect(rt, "memory")
+}
+
+/// How many classes of the document an index has.
+fn count_named(index: &Index) -> usize {
+    index
+        .normal()
+        .named
+        .items()
+        .iter()
+        .filter(|flag| **flag)
+        .count()
+}
+
+/// Whether the normal axioms of a text have so many classes of the document, and so many roles.
+fn is_normalised(rt: &impl Abort, alloc: Global, text: &str, named: usize, roles: u32) -> bool {
+    let bytes = text.as_bytes().to_vec(alloc).expect(rt, "memory");
+    let index = index_of(rt, alloc, bytes);
+    let holds = count_named(&index) == named && index.normal().roles == roles;
+    drop(index);
+    holds
 }
 
 #[test]
-fn documents_of_every_kind_have_normal_axioms(rt: HostRuntime) -> Result<(), Fail> {
+fn documents_of_every_kind_have_normal_axioms(rt: HostRuntime) {
     for (text, named, roles) in [
         ("Ontology(SubClassOf(<x:A> <x:B>))", 4usize, 0u32),
         (
@@ -517,49 +576,64 @@ fn documents_of_every_kind_have_normal_axioms(rt: HostRuntime) -> Result<(), Fai
             0,
         ),
     ] {
-        let index = index_of(rt.alloc(), text.as_bytes().to_vec(rt.alloc())?)?;
-        let normal = index.normal();
-        let flags = normal.named.items();
-        assert_eq!(rt; flags.iter().filter(|flag| **flag).count(), named, "{text}");
-        assert_eq!(rt; normal.roles, roles, "{text}");
+        assert!(rt;
+            is_normalised(&rt, rt.alloc(), text, named, roles),
+            "{text}"
+        );
     }
-    Ok(())
 }
 
-/// 20,000 axioms of all kinds, a disjointness of 20,000 classes, and 20,000 roles without a pair.
-fn large_text(alloc: Global) -> Result<Vec<u8>, Fail> {
-    let mut text = b"Prefix(:=<x:>)Ontology(".to_vec(alloc)?;
+/// 20,000 axioms of all kinds.
+fn put_axioms(rt: &impl Abort, alloc: Global, text: &mut Vec<u8>) {
     for i in 0u32..2_500 {
         let axioms = format!(in alloc;
             "SubClassOf(:A{i} ObjectSomeValuesFrom(:r ObjectUnionOf(:B{i} ObjectComplementOf(:C{i}))))EquivalentClasses(:D{i} ObjectAllValuesFrom(:s :A{i}))DisjointClasses(:A{i} :B{i} :C{i})DisjointUnion(:E{i} :A{i} :B{i})SubObjectPropertyOf(:p{i} :q)EquivalentObjectProperties(:p{i} :t{i})ObjectPropertyDomain(:p{i} :A{i})ObjectPropertyRange(:p{i} :B{i})"
-        )?;
-        text.extend_from_slice(axioms.as_bytes())?;
+        ).expect(rt, "memory");
+        text.extend_from_slice(axioms.as_bytes())
+            .expect(rt, "memory");
     }
-    text.extend_from_slice(b"DisjointClasses(")?;
+}
+
+/// A disjointness of 20,000 classes.
+fn put_disjointness(rt: &impl Abort, alloc: Global, text: &mut Vec<u8>) {
+    text.extend_from_slice(b"DisjointClasses(")
+        .expect(rt, "memory");
     for i in 0u32..20_000 {
-        let class = format!(in alloc; " :F{i}")?;
-        text.extend_from_slice(class.as_bytes())?;
+        let class = format!(in alloc; " :F{i}").expect(rt, "memory");
+        text.extend_from_slice(class.as_bytes())
+            .expect(rt, "memory");
     }
-    text.push(b')')?;
+    text.push(b')').expect(rt, "memory");
+}
+
+/// 20,000 roles without a pair.
+fn put_roles(rt: &impl Abort, alloc: Global, text: &mut Vec<u8>) {
     for i in 0u32..20_000 {
-        let axiom = format!(in alloc; "ObjectPropertyDomain(:u{i} :A0)")?;
-        text.extend_from_slice(axiom.as_bytes())?;
+        let axiom = format!(in alloc; "ObjectPropertyDomain(:u{i} :A0)").expect(rt, "memory");
+        text.extend_from_slice(axiom.as_bytes())
+            .expect(rt, "memory");
     }
-    text.push(b')')?;
-    Ok(text)
+}
+
+/// 20,000 axioms of all kinds, a disjointness of 20,000 classes, and 20,000 roles without a pair.
+fn large_text(rt: &impl Abort, alloc: Global) -> Vec<u8> {
+    let mut text = b"Prefix(:=<x:>)Ontology("
+        .to_vec(alloc)
+        .expect(rt, "memory");
+    put_axioms(rt, alloc, &mut text);
+    put_disjointness(rt, alloc, &mut text);
+    put_roles(rt, alloc, &mut text);
+    text.push(b')').expect(rt, "memory");
+    text
 }
 
 #[test]
-fn a_large_document_is_normalised_and_indexed(rt: HostRuntime) -> Result<(), Fail> {
-    let index = index_of(rt.alloc(), large_text(rt.alloc())?)?;
-    let normal = index.normal();
+fn a_large_document_is_normalised_and_indexed(rt: HostRuntime) {
+    let index = index_of(&rt, rt.alloc(), large_text(&rt, rt.alloc()));
     // owl:Thing and owl:Nothing, five classes for each number, and those of the large disjointness.
-    assert_eq!(rt;
-        normal.named.items().iter().filter(|flag| **flag).count(),
-        32_502
-    );
-    assert_eq!(rt; normal.roles, 25_003);
-    assert_eq!(rt; normal.n5.items().len(), 7_500);
+    assert_eq!(rt; count_named(&index), 32_502);
+    assert_eq!(rt; index.normal().roles, 25_003);
+    assert_eq!(rt; index.normal().n5.items().len(), 7_500);
     assert_eq!(rt; index.free().len(), 2_501);
-    Ok(())
+    drop(index);
 }

@@ -5,7 +5,7 @@ use Rattle.cd_cell.specs.Cells.{CellState, IsLawfulNote}
 use Rattle.cd_cell.proofs.tests.started.Goals as goal
 
 pub deliver-requires-clause-lawful : goal.deliver-requires-clause-lawful
-deliver-requires-clause-lawful c =
+deliver-requires-clause-lawful g c =
     subst (λ (v : CellState). IsLawfulNote v.normal v.cells v.number (record { key = c.single.result; fact = Start })) (sym c.new-cell.ensures) (record {
       below = omega arith;
       goes = omega arith;
