@@ -2,6 +2,7 @@ pub mod Absorb
 pub mod Adds
 pub mod Appended
 pub mod Besides
+pub mod FactRules
 pub mod Grown
 pub mod Justify
 pub mod Least

@@ -167,7 +167,7 @@ fn push_universal(
     ensures { OnOk result (Gains (IsBesideUniversal index.now.normal store.now.0 atom) found.old.items found.new.items) }
 {
     if has_universal(index, atom) {
-        store.push_with_existential(found)?;
+        store.push_with_existentials(found)?;
     }
     Ok(())
 }

@@ -14,13 +14,14 @@ ghost use Rattle.cd_context.specs.declared.facts.Fact.TheVariants.{Link, Back, D
 use crate::closing::close_with;
 use crate::distinct::append_distinct;
 use crate::fact_lists::FactLists;
+use crate::fact_rules::{conclude_back, conclude_dead};
 use crate::facts::{Fact, LinkFact, Note};
 use crate::live::{has_empty, has_single, singles};
 use crate::owing::{owe_link, owe_since};
 use crate::sending::send_since;
 use cd_base::{Atom, Key, Memory};
 use cd_index::Index;
-use cd_rules::{BackFact, DeadFact, on_back, on_dead, on_key};
+use cd_rules::{BackFact, DeadFact, on_key};
 use cd_store::Store;
 use std::alloc::Global;
 use std::marker::Model;
@@ -74,8 +75,8 @@ impl Context {
 
     /// Takes a fact. The context is closed again, and what it came to owe is appended to `out`. A fact that it has changes nothing.
     ///
-    /// One look-up, and for a fact that is new a walk over the live clauses, and the cost of `begin` for each clause that is taken up. After
-    /// `Memory` nothing was appended, and the context keeps all that it had, with the fact or without it; it may not be closed, and then no
+    /// One look-up, and for a new link a walk over the live clauses, for a new back or dead that of `conclude_back`, and the cost of `begin` for
+    /// each clause that is taken up. After `Memory` nothing was appended, and the context keeps all that it had, with the fact or without it; it may not be closed, and then no
     /// further fact may come.
     pub fn absorb(
         &mut self,
@@ -137,8 +138,8 @@ impl Context {
 
     /// Takes a back that it didn't have, closes again, and appends what it came to owe.
     ///
-    /// Linear in the live clauses, with the cost of `begin` for each clause that is taken up. After `Memory` nothing was appended, and it has
-    /// the back or not.
+    /// Linear in the clauses with its existential, with the cost of `begin` for each clause that is taken up. After `Memory` nothing was
+    /// appended, and it has the back or not.
     fn absorb_back(
         &mut self,
         alloc: Global,
@@ -155,10 +156,10 @@ impl Context {
         ensures err { OnErr result (out.new.items ≡ out.old.items) }
     {
         let stored = self.store.clauses().len();
+        // what every store keeps is said where its live numbers are lent
+        let _live = self.store.live();
         let mut conclusions = Vec::new(alloc);
-        let clauses = self.store.clauses();
-        let live = self.store.live();
-        on_back(index, clauses, live, &back, &mut conclusions)?;
+        conclude_back(alloc, index, &self.store, &back, &mut conclusions)?;
         self.facts.add_back(back)?;
         let backs = self.facts.backs();
         let deads = self.facts.deads();
@@ -178,8 +179,8 @@ impl Context {
 
     /// Takes a dead that it didn't have, closes again, and appends what it came to owe.
     ///
-    /// Linear in the live clauses, with the cost of `begin` for each clause that is taken up. After `Memory` nothing was appended, and it has
-    /// the dead or not.
+    /// Linear in the clauses with its existential, with the cost of `begin` for each clause that is taken up. After `Memory` nothing was
+    /// appended, and it has the dead or not.
     fn absorb_dead(
         &mut self,
         alloc: Global,
@@ -196,10 +197,10 @@ impl Context {
         ensures err { OnErr result (out.new.items ≡ out.old.items) }
     {
         let stored = self.store.clauses().len();
+        // what every store keeps is said where its live numbers are lent
+        let _live = self.store.live();
         let mut conclusions = Vec::new(alloc);
-        let clauses = self.store.clauses();
-        let live = self.store.live();
-        on_dead(index, clauses, live, &dead, &mut conclusions)?;
+        conclude_dead(alloc, index, &self.store, &dead, &mut conclusions)?;
         self.facts.add_dead(dead)?;
         let backs = self.facts.backs();
         let deads = self.facts.deads();

@@ -3,7 +3,8 @@
 //! A context is begun with its key and takes facts from other contexts, one at a time. Each time it takes up the clauses that wait, the
 //! shortest first, until every conclusion is redundant (`closing`), and then says what it came to owe (`owing`). A clause that is taken up
 //! meets only those of the earlier ones that can be of use beside it, which the store finds by what they have (`beside`): each pair meets
-//! once. A context never looks at another one: what it is told of them is its facts.
+//! once. A fact meets only the clauses that have its existential (`fact_rules`). A context never looks at another one: what it is told of
+//! them is its facts.
 #![tactic(auto)]
 
 ghost use Rattle.cd_context.specs.Justified.{StoredDerived, OwedJustified};
@@ -15,6 +16,7 @@ mod closing;
 mod context;
 mod distinct;
 mod fact_lists;
+mod fact_rules;
 mod facts;
 mod live;
 mod notes;

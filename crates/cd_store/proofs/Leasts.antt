@@ -53,12 +53,12 @@ filed_existential f n (x ∷ (y ∷ c)) r k h m = elim m [
   | inr i ↦ filed_existential f n (y ∷ c) r k h.1 i
 ]
 
--- a stored clause with an atom is in one of the two lists of the atom
-pub atom_listed : (f : List (ℕ × List ℕ)) (store : List (List Elem) × List ℕ) (clauses : List (List Elem)) (live : List ℕ) (a n : ℕ) → (clauses, live) ≡ store → AreFiled f clauses → HasElem store.0 (Plain a) n
-    → Member n (listed f (ends_in (Plain a))) ⊎ Member n (listed f (goes_on_from (Plain a)))
-atom_listed f store clauses live a n e filed h =
-    let k : HasElem clauses (Plain a) n = subst (λ (s : List (List Elem) × List ℕ). HasElem s.0 (Plain a) n) (sym e) h in
-    filed_with f n (get_or clauses n []) (Plain a) (filed n k.0) k.1
+-- a stored clause with an element is in one of the two lists of the element
+pub elem_listed : (f : List (ℕ × List ℕ)) (store : List (List Elem) × List ℕ) (clauses : List (List Elem)) (live : List ℕ) (e : Elem) (n : ℕ) → (clauses, live) ≡ store → AreFiled f clauses → HasElem store.0 e n
+    → Member n (listed f (ends_in e)) ⊎ Member n (listed f (goes_on_from e))
+elem_listed f store clauses live e n q filed h =
+    let k : HasElem clauses e n = subst (λ (s : List (List Elem) × List ℕ). HasElem s.0 e n) (sym q) h in
+    filed_with f n (get_or clauses n []) e (filed n k.0) k.1
 
 -- a stored clause with an existential is in their list
 pub existential_listed : (f : List (ℕ × List ℕ)) (store : List (List Elem) × List ℕ) (clauses : List (List Elem)) (live : List ℕ) (n : ℕ) → (clauses, live) ≡ store → AreFiled f clauses → HasExistential store.0 n

@@ -1,11 +1,11 @@
 //! The clauses that are stored, by what they have.
 ghost use Rattle.std.specs.Prelude.{◌≡◌, ◌<◌, ℕ, [], cond, length, slice_index_or, OnOk};
 ghost use Rattle.cd_base.specs.Lists.{Member};
-ghost use Rattle.cd_clause.specs.declared.elem.Elem.TheVariants.{Plain};
+ghost use Rattle.cd_clause.specs.declared.elem.Elem.TheVariants.{Exist, Plain};
 ghost use Rattle.cd_store.specs.Filing.{ends_in, existentials, filed_under, goes_on_from, keys_of, listed, HasList, IsFiled, IsUnder, KeepsFiled};
 ghost use Rattle.cd_store.specs.LookUps.{Gains};
 
-use cd_base::{Atom, Memory};
+use cd_base::{Atom, Key, Memory, Role};
 use cd_clause::{Clause, Elem};
 use indexmap::IndexMap;
 use smallvec::SmallVec;
@@ -143,8 +143,22 @@ impl Filing {
         self.list((atom.number() as u64) * 2 + 1)
     }
 
+    /// As `ending_in`, for an existential. One look-up, and linear in the key.
+    pub(crate) fn ending_in_existential(&self, role: Role, key: &Key) -> &[usize]
+        ensures { result.now ≡ listed self.now (ends_in (Exist role key.now)) }
+    {
+        self.list(number_of_existential(role, key) * 2)
+    }
+
+    /// As `going_on_from`, for an existential. One look-up, and linear in the key.
+    pub(crate) fn going_on_from_existential(&self, role: Role, key: &Key) -> &[usize]
+        ensures { result.now ≡ listed self.now (goes_on_from (Exist role key.now)) }
+    {
+        self.list(number_of_existential(role, key) * 2 + 1)
+    }
+
     /// The numbers of clauses with an existential, lent: they are among these. One look-up.
-    pub(crate) fn with_existential(&self) -> &[usize]
+    pub(crate) fn with_existentials(&self) -> &[usize]
         ensures { result.now ≡ listed self.now existentials }
     {
         self.list(EXISTENTIALS)
@@ -205,8 +219,14 @@ fn number_of(elem: &Elem) -> u64
 {
     match elem {
         Elem::Plain(atom) => atom.number() as u64,
-        Elem::Exist(role, key) => {
-            4_294_967_296 + (role.0 as u64) * 31 + (key.place(4_294_967_295) as u64)
-        }
+        Elem::Exist(role, key) => number_of_existential(*role, key),
     }
+}
+
+/// The number under which an existential is filed. Linear in the key.
+fn number_of_existential(role: Role, key: &Key) -> u64
+    ensures number { result ≡ filed_under (Exist role key.now) }
+    ensures range { result < 1_099_511_627_776 }
+{
+    4_294_967_296 + (role.0 as u64) * 31 + (key.place(4_294_967_295) as u64)
 }

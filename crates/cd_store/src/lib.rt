@@ -7,7 +7,8 @@
 //! the clauses that end in one of its elements, and its supersets among those with its last, and a clause is compared with no other. Only
 //! the empty clause has no element: where it is live nothing else is, so the first live clause is always compared.
 //!
-//! Whoever closes the clauses under rules asks the same lists which clauses have an atom (`Store::push_with_atom`) or an existential.
+//! Whoever closes the clauses under rules asks the same lists which clauses have an atom (`Store::push_with_atom`) or an existential
+//! (`Store::push_with_existential`).
 #![tactic(auto)]
 
 mod filing;

@@ -3,7 +3,7 @@ ghost use Rattle.std.specs.Prelude.{◌≡◌, ◌<◌, ◌↔◌, ◌∷◌, �
 ghost use Rattle.std.specs.Bool.{OnFalse};
 ghost use Rattle.cd_base.specs.Lists.{Member, Within};
 ghost use Rattle.cd_clause.specs.declared.elem.Elem.{Elem};
-ghost use Rattle.cd_clause.specs.declared.elem.Elem.TheVariants.{Plain};
+ghost use Rattle.cd_clause.specs.declared.elem.Elem.TheVariants.{Exist, Plain};
 ghost use Rattle.cd_store.specs.Filing.{AreFiled};
 ghost use Rattle.cd_store.specs.LookUps.{Gains, HasElem, HasExistential};
 ghost use Rattle.cd_store.specs.Sift.{Sifts};
@@ -11,7 +11,7 @@ ghost use Rattle.cd_store.specs.Store.{IsStore, IsOutcome, ContainsNoEarlier};
 
 use crate::filing::Filing;
 use crate::subsets::{find_subset, is_among};
-use cd_base::{Atom, Memory};
+use cd_base::{Atom, Key, Memory, Role};
 use cd_clause::Clause;
 use std::alloc::Global;
 use std::marker::Model;
@@ -128,12 +128,27 @@ impl Store {
         Ok(())
     }
 
+    /// Appends the number of each stored clause, live or dead, that has this existential, and maybe others. Two look-ups, and linear in the
+    /// key and in what is appended.
+    pub fn push_with_existential(
+        &self,
+        role: Role,
+        key: &Key,
+        found: &mut Vec<usize>,
+    ) -> Result<(), Memory>
+        ensures { OnOk result (Gains (HasElem self.now.0 (Exist role key.now)) found.old.items found.new.items) }
+    {
+        found.extend_from_slice(self.filing.ending_in_existential(role, key))?;
+        found.extend_from_slice(self.filing.going_on_from_existential(role, key))?;
+        Ok(())
+    }
+
     /// Appends the number of each stored clause, live or dead, that has an existential, and maybe others. One look-up, and linear in what
     /// is appended.
-    pub fn push_with_existential(&self, found: &mut Vec<usize>) -> Result<(), Memory>
+    pub fn push_with_existentials(&self, found: &mut Vec<usize>) -> Result<(), Memory>
         ensures { OnOk result (Gains (HasExistential self.now.0) found.old.items found.new.items) }
     {
-        found.extend_from_slice(self.filing.with_existential())?;
+        found.extend_from_slice(self.filing.with_existentials())?;
         Ok(())
     }
 

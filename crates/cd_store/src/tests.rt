@@ -91,10 +91,28 @@ fn the_clauses_with_an_existential_are_found(rt: HostRuntime) {
     let store = four_clauses(&rt, rt.alloc());
     let mut found = Vec::new(rt.alloc());
     store
-        .push_with_existential(&mut found)
+        .push_with_existentials(&mut found)
         .expect(&rt, "memory");
     assert!(rt; found.as_slice() == [3].as_slice());
     drop(found);
+    drop(store);
+}
+
+#[test]
+fn the_clauses_with_one_existential_are_found(rt: HostRuntime) {
+    let store = four_clauses(&rt, rt.alloc());
+    let four = Key::single(rt.alloc(), Atom(4));
+    let mut found = Vec::new(rt.alloc());
+    store
+        .push_with_existential(Role(1), &four, &mut found)
+        .expect(&rt, "memory");
+    assert!(rt; found.is_empty());
+    store
+        .push_with_existential(Role(0), &four, &mut found)
+        .expect(&rt, "memory");
+    assert!(rt; found.as_slice() == [3].as_slice());
+    drop(found);
+    drop(four);
     drop(store);
 }
 

@@ -14,16 +14,13 @@ use Rattle.cd_context.proofs.Sent.{sends_at}
 use Rattle.cd_context.proofs.ToldMore.{in_turn_told, in_turn_at, closed_at, closed_after_back, concluded_by_back}
 use Rattle.cd_context.proofs.context.Context.absorb_back.Goals as goal
 
-pub on_back-requires : goal.on_back-requires
-on_back-requires c = record { live = rw (c.clauses-clauses.ensures.value, c.live-live.ensures.value) c.live-live.ensures.store.in_range }
-
 pub close_with-requires-clause-closed : goal.close_with-requires-clause-closed
 close_with-requires-clause-closed c =
     let n = c.args.index.now.normal in
-    let f : (d : List Elem) → FromBack n c.self.inside.key c.self.inside.store.0 c.self.inside.store.1 c.args.back d → Redundant c.on_back.new.out.items d
-    = rw (← c.clauses-clauses.ensures.value, ← c.live-live.ensures.value) (appended_every _ _ _ _ c.new-conclusions.ensures.items (c.in_ok-on_back.ensures c.self.inside.key) refl) in
-    closed_at n c.self.inside.key c.backs-backs.result.now c.backs-backs.result.now c.self.inside.facts.deads c.deads-deads.result.now c.self.inside.store.0 c.self.inside.store.1 [] c.on_back.new.out.items refl (sym (c.deads-deads.ensures ∙ ap (λ (r : ByKind). r.deads) c.in_ok-add_back.ensures.ok))
-    (closed_after_back n c.self.inside.key c.self.inside.facts.backs c.backs-backs.result.now c.self.inside.facts.deads c.args.back c.self.inside.store.0 c.self.inside.store.1 c.on_back.new.out.items ((c.backs-backs.ensures ∙ ap (λ (r : ByKind). r.backs) c.in_ok-add_back.ensures.ok) ∙ refl) (subst (λ s. ClosedLocally n s) (sym c.self.view_is) c.requires.closed) f)
+    let f : (d : List Elem) → FromBack n c.self.inside.key c.self.inside.store.0 c.self.inside.store.1 c.args.back d → Redundant c.conclude_back.new.out.items d
+    = appended_every _ _ _ _ c.new-conclusions.ensures.items (c.in_ok-conclude_back.ensures c.self.inside.key) refl in
+    closed_at n c.self.inside.key c.backs-backs.result.now c.backs-backs.result.now c.self.inside.facts.deads c.deads-deads.result.now c.self.inside.store.0 c.self.inside.store.1 [] c.conclude_back.new.out.items refl (sym (c.deads-deads.ensures ∙ ap (λ (r : ByKind). r.deads) c.in_ok-add_back.ensures.ok))
+    (closed_after_back n c.self.inside.key c.self.inside.facts.backs c.backs-backs.result.now c.self.inside.facts.deads c.args.back c.self.inside.store.0 c.self.inside.store.1 c.conclude_back.new.out.items ((c.backs-backs.ensures ∙ ap (λ (r : ByKind). r.backs) c.in_ok-add_back.ensures.ok) ∙ refl) (subst (λ s. ClosedLocally n s) (sym c.self.view_is) c.requires.closed) f)
 
 pub close_with-requires-clause-in_turn : goal.close_with-requires-clause-in_turn
 close_with-requires-clause-in_turn c =
@@ -35,7 +32,7 @@ pub close_with-requires-clause-concluded : goal.close_with-requires-clause-concl
 close_with-requires-clause-concluded c = λ d m.
     let n = c.args.index.now.normal in
     let q : FromBack n c.self.inside.key c.self.inside.store.0 c.self.inside.store.1 c.args.back d
-    = rw (← c.clauses-clauses.ensures.value, ← c.live-live.ensures.value) (appended_only _ _ _ _ c.new-conclusions.ensures.items (c.in_ok-on_back.ensures c.self.inside.key) d m) in
+    = appended_only _ _ _ _ c.new-conclusions.ensures.items (c.in_ok-conclude_back.ensures c.self.inside.key) d m in
     subst (λ w. ConcludesFrom n c.self.inside.key (λ c'. Member c' c.self.inside.store.0) c.backs-backs.result.now w d) (sym (c.deads-deads.ensures ∙ ap (λ (r : ByKind). r.deads) c.in_ok-add_back.ensures.ok)) (concluded_by_back n c.self.inside.key c.self.inside.facts.backs c.backs-backs.result.now c.self.inside.facts.deads c.args.back c.self.inside.store.0 c.self.inside.store.1 ((c.backs-backs.ensures ∙ ap (λ (r : ByKind). r.backs) c.in_ok-add_back.ensures.ok) ∙ refl) c.live-live.ensures.store.in_range d q)
 
 pub returns-in_err-close_with-clause-keeps : goal.returns-in_err-close_with-clause-keeps

@@ -14,16 +14,13 @@ use Rattle.cd_context.proofs.Sent.{sends_at}
 use Rattle.cd_context.proofs.ToldMore.{in_turn_told, in_turn_at, closed_at, closed_after_dead, concluded_by_dead}
 use Rattle.cd_context.proofs.context.Context.absorb_dead.Goals as goal
 
-pub on_dead-requires : goal.on_dead-requires
-on_dead-requires c = record { live = rw (c.clauses-clauses.ensures.value, c.live-live.ensures.value) c.live-live.ensures.store.in_range }
-
 pub close_with-requires-clause-closed : goal.close_with-requires-clause-closed
 close_with-requires-clause-closed c =
     let n = c.args.index.now.normal in
-    let f : (d : List Elem) → FromDead n c.self.inside.key c.self.inside.store.0 c.self.inside.store.1 c.args.dead d → Redundant c.on_dead.new.out.items d
-    = rw (← c.clauses-clauses.ensures.value, ← c.live-live.ensures.value) (appended_every _ _ _ _ c.new-conclusions.ensures.items (c.in_ok-on_dead.ensures c.self.inside.key) refl) in
-    closed_at n c.self.inside.key c.self.inside.facts.backs c.backs-backs.result.now c.deads-deads.result.now c.deads-deads.result.now c.self.inside.store.0 c.self.inside.store.1 [] c.on_dead.new.out.items (sym (c.backs-backs.ensures ∙ ap (λ (r : ByKind). r.backs) c.in_ok-add_dead.ensures.ok)) refl
-    (closed_after_dead n c.self.inside.key c.self.inside.facts.backs c.self.inside.facts.deads c.deads-deads.result.now c.args.dead c.self.inside.store.0 c.self.inside.store.1 c.on_dead.new.out.items ((c.deads-deads.ensures ∙ ap (λ (r : ByKind). r.deads) c.in_ok-add_dead.ensures.ok) ∙ refl) (subst (λ s. ClosedLocally n s) (sym c.self.view_is) c.requires.closed) f)
+    let f : (d : List Elem) → FromDead n c.self.inside.key c.self.inside.store.0 c.self.inside.store.1 c.args.dead d → Redundant c.conclude_dead.new.out.items d
+    = appended_every _ _ _ _ c.new-conclusions.ensures.items (c.in_ok-conclude_dead.ensures c.self.inside.key) refl in
+    closed_at n c.self.inside.key c.self.inside.facts.backs c.backs-backs.result.now c.deads-deads.result.now c.deads-deads.result.now c.self.inside.store.0 c.self.inside.store.1 [] c.conclude_dead.new.out.items (sym (c.backs-backs.ensures ∙ ap (λ (r : ByKind). r.backs) c.in_ok-add_dead.ensures.ok)) refl
+    (closed_after_dead n c.self.inside.key c.self.inside.facts.backs c.self.inside.facts.deads c.deads-deads.result.now c.args.dead c.self.inside.store.0 c.self.inside.store.1 c.conclude_dead.new.out.items ((c.deads-deads.ensures ∙ ap (λ (r : ByKind). r.deads) c.in_ok-add_dead.ensures.ok) ∙ refl) (subst (λ s. ClosedLocally n s) (sym c.self.view_is) c.requires.closed) f)
 
 pub close_with-requires-clause-in_turn : goal.close_with-requires-clause-in_turn
 close_with-requires-clause-in_turn c =
@@ -35,7 +32,7 @@ pub close_with-requires-clause-concluded : goal.close_with-requires-clause-concl
 close_with-requires-clause-concluded c = λ d m.
     let n = c.args.index.now.normal in
     let q : FromDead n c.self.inside.key c.self.inside.store.0 c.self.inside.store.1 c.args.dead d
-    = rw (← c.clauses-clauses.ensures.value, ← c.live-live.ensures.value) (appended_only _ _ _ _ c.new-conclusions.ensures.items (c.in_ok-on_dead.ensures c.self.inside.key) d m) in
+    = appended_only _ _ _ _ c.new-conclusions.ensures.items (c.in_ok-conclude_dead.ensures c.self.inside.key) d m in
     subst (λ w. ConcludesFrom n c.self.inside.key (λ c'. Member c' c.self.inside.store.0) w c.deads-deads.result.now d) (sym (c.backs-backs.ensures ∙ ap (λ (r : ByKind). r.backs) c.in_ok-add_dead.ensures.ok)) (concluded_by_dead n c.self.inside.key c.self.inside.facts.backs c.self.inside.facts.deads c.deads-deads.result.now c.args.dead c.self.inside.store.0 c.self.inside.store.1 ((c.deads-deads.ensures ∙ ap (λ (r : ByKind). r.deads) c.in_ok-add_dead.ensures.ok) ∙ refl) c.live-live.ensures.store.in_range d q)
 
 pub returns-in_err-close_with-clause-keeps : goal.returns-in_err-close_with-clause-keeps
