@@ -5,7 +5,7 @@
 #
 #   bench/growth.sh [form ..]
 #
-# The forms: generated, disjoint, operands, roles, flat, chain, universals, closing. Without words all of them.
+# The forms: generated, disjoint, operands, roles, flat, chain, universals, closing, fillers, sources. Without words all of them.
 set -eu
 . "$(dirname "$0")/measure.sh"
 
@@ -93,6 +93,24 @@ closing() {
   }'
 }
 
+# A class with n existentials over one role, of which each filler is below C; and what has such an edge to a C is in D.
+fillers() {
+  awk -v n="$1" 'BEGIN {
+    print "Ontology("
+    for (i = 0; i < n; i++) printf "SubClassOf(<x:A> ObjectSomeValuesFrom(<x:r> <x:B%d>))\nSubClassOf(<x:B%d> <x:C>)\n", i, i
+    print "SubClassOf(ObjectSomeValuesFrom(<x:r> <x:C>) <x:D>)\n)"
+  }'
+}
+
+# A class with existentials of one filler over n roles, each of which has a domain for that filler.
+sources() {
+  awk -v n="$1" 'BEGIN {
+    print "Ontology("
+    for (i = 0; i < n; i++) printf "SubClassOf(<x:A> ObjectSomeValuesFrom(<x:r%d> <x:B>))\nSubClassOf(ObjectSomeValuesFrom(<x:r%d> <x:B>) <x:D%d>)\n", i, i, i
+    print ")"
+  }'
+}
+
 compare() {
   local small large
   "$1" "$2" >"$folder/small.ofn"
@@ -106,13 +124,14 @@ compare() {
 
 for form in "${@:-all}"; do
   case $form in
-    all) exec "$0" generated disjoint operands roles flat chain universals closing ;;
+    all) exec "$0" generated disjoint operands roles flat chain universals closing fillers sources ;;
     generated) compare generated 1250 5000; compare generated 5000 20000 ;;
     disjoint | operands | roles) compare "$form" 10000 40000 ;;
     flat) compare flat 25000 100000 ;;
     chain) compare chain 1000 4000 ;;
     universals) compare universals 6 8 ;;
     closing) compare closing 100 400 ;;
+    fillers | sources) compare "$form" 2500 10000 ;;
     *) echo "no form $form" >&2; exit 2 ;;
   esac
 done
