@@ -1,12 +1,11 @@
 //! The store of a context.
-ghost use Rattle.std.specs.Prelude.{◌≡◌, ◌<◌, ◌↔◌, ◌∷◌, ◌++◌, ℕ, List, [], length, true, IfOk, IfSome, OnOk, OnErr, reverse, slice_index_or};
-ghost use Rattle.std.specs.Bool.{OnFalse};
-ghost use Rattle.cd_base.specs.Lists.{Member, Within};
+ghost use Rattle.std.specs.Prelude.{◌≡◌, ◌↔◌, ◌∷◌, ◌++◌, ◌⊎◌, ℕ, List, [], true, IfOk, IfSome, OnOk, OnErr, reverse};
+ghost use Rattle.cd_base.specs.Lists.{Member};
 ghost use Rattle.cd_clause.specs.declared.elem.Elem.{Elem};
 ghost use Rattle.cd_clause.specs.declared.elem.Elem.TheVariants.{Exist, Plain};
 ghost use Rattle.cd_store.specs.Filing.{AreFiled};
 ghost use Rattle.cd_store.specs.LookUps.{Gains, HasElem, HasExistential};
-ghost use Rattle.cd_store.specs.Sift.{Sifts};
+ghost use Rattle.cd_store.specs.Sift.{IsSuperset, Leaves, Sifts};
 ghost use Rattle.cd_store.specs.Store.{IsStore, IsOutcome, ContainsNoEarlier};
 
 use crate::filing::Filing;
@@ -85,7 +84,7 @@ impl Store {
     /// Stores the clause under the next number and makes it live, and makes its live supersets dead; or changes nothing, where a live
     /// clause is a subset of it. A look-up for each element of the clause; for each stored clause that may end in an
     /// element of it or have its last one, logarithmic in the live ones, and a walk over both where that one is live; and where a
-    /// superset dies, a walk over the clause and each live one.
+    /// superset dies, a walk over the numbers of the live ones.
     pub fn add(&mut self, alloc: Global, clause: Clause) -> Result<Added, Memory>
         ensures ok { IfOk result (λ a. IsOutcome self.old clause self.new a) }
         ensures err { OnErr result (self.new ≡ self.old) }
@@ -166,8 +165,8 @@ impl Store {
     }
 }
 
-/// Makes the live supersets of the clause dead, and this number live. Costs what `has_live_superset` does, and what `sift` does only where
-/// a superset is live. After `Memory` nothing has changed.
+/// Makes the live supersets of the clause dead, and this number live. Costs what `live_supersets` does, and what `sift` does only where a
+/// superset is live. After `Memory` nothing has changed.
 fn replace(
     alloc: Global,
     filing: &Filing,
@@ -181,53 +180,67 @@ fn replace(
     ensures ok { OnOk result ((after : List ℕ) × Sifts clauses.now clause.now live.old.items after × (live.new.items ≡ after ++ number ∷ [])) }
     ensures err { OnErr result (live.new.items ≡ live.old.items) }
 {
-    if has_live_superset(filing, clauses, live.as_slice(), clause) {
-        let mut after = sift(alloc, clauses, live.as_slice(), clause)?;
-        after.push(number)?;
-        *live = after;
+    let dead = live_supersets(alloc, filing, clauses, live.as_slice(), clause)?;
+    if dead.as_slice().is_empty() {
+        live.push(number)?;
         return Ok(());
     }
-    live.push(number)?;
+    let mut after = sift(alloc, live.as_slice(), dead.as_slice())?;
+    after.push(number)?;
+    *live = after;
     Ok(())
 }
 
-/// Whether one of the live numbers is that of a superset. One look-up twice; for each clause that may have the last element of this one,
-/// the cost of `has_superset`.
-fn has_live_superset(filing: &Filing, clauses: &[Clause], live: &[usize], clause: &Clause) -> bool
+/// The live numbers whose clause is a superset. One look-up twice; for each clause that may have the last element of this one, the cost of
+/// `is_superset`.
+fn live_supersets(
+    alloc: Global,
+    filing: &Filing,
+    clauses: &[Clause],
+    live: &[usize],
+    clause: &Clause,
+) -> Result<Vec<usize>, Memory>
     requires store { IsStore clauses.now live.now }
     requires filed { AreFiled filing.now clauses.now }
-    ensures { OnFalse result ((n : ℕ) → Member n live.now → Within clause.now (slice_index_or clauses.now n []) → ⊥) }
+    ensures { IfOk result (λ dead. (n : ℕ) → Member n dead.items ↔ IsSuperset clauses.now live.now clause.now n) }
 {
+    let mut dead = Vec::new(alloc);
     match clause.elems().last() {
-        None => has_superset(clauses, live, clause, live),
+        None => push_supersets(clauses, live, clause, live, &mut dead)?,
         Some(last) => {
-            if has_superset(clauses, live, clause, filing.ending_in(last)) {
-                return true;
-            }
-            has_superset(clauses, live, clause, filing.going_on_from(last))
+            push_supersets(clauses, live, clause, filing.ending_in(last), &mut dead)?;
+            push_supersets(clauses, live, clause, filing.going_on_from(last), &mut dead)?;
         }
     }
+    Ok(dead)
 }
 
-/// Whether one of these numbers is that of a live superset. For each logarithmic in the live numbers, and one walk over both clauses.
-fn has_superset(clauses: &[Clause], live: &[usize], clause: &Clause, numbers: &[usize]) -> bool
+/// Appends those of these numbers that are those of live supersets. For each logarithmic in the live numbers, and one walk over both
+/// clauses.
+fn push_supersets(
+    clauses: &[Clause],
+    live: &[usize],
+    clause: &Clause,
+    numbers: &[usize],
+    found: &mut Vec<usize>,
+) -> Result<(), Memory>
     requires { IsStore clauses.now live.now }
-    ensures { OnFalse result ((n : ℕ) → Member n numbers.now → Member n live.now → Within clause.now (slice_index_or clauses.now n []) → ⊥) }
+    ensures every { OnOk result (Gains (λ n. Member n numbers.now × IsSuperset clauses.now live.now clause.now n) found.old.items found.new.items) }
+    ensures only { OnOk result ((n : ℕ) → Member n found.new.items → Member n found.old.items ⊎ IsSuperset clauses.now live.now clause.now n) }
 {
-    let mut rest = numbers;
-    'numbers: while let [number, others @ ..] = rest {
-        if is_superset(clauses, live, clause, *number) {
-            return true;
+    'numbers: for i in 0..numbers.len() {
+        let number = numbers[i];
+        if is_superset(clauses, live, clause, number) {
+            found.push(number)?;
         }
-        rest = others;
     }
-    false
+    Ok(())
 }
 
 /// Whether the number is live and its clause a superset. Logarithmic in the live numbers, and one walk over both clauses.
 fn is_superset(clauses: &[Clause], live: &[usize], clause: &Clause, number: usize) -> bool
     requires { IsStore clauses.now live.now }
-    ensures { (result ≡ true) ↔ (Member number live.now × Within clause.now (slice_index_or clauses.now number [])) }
+    ensures { (result ≡ true) ↔ IsSuperset clauses.now live.now clause.now number }
 {
     if !is_among(live, number) {
         return false;
@@ -235,21 +248,14 @@ fn is_superset(clauses: &[Clause], live: &[usize], clause: &Clause, number: usiz
     clause.within(&clauses[number])
 }
 
-/// The numbers whose clause is no superset. One walk over the clause and each live one.
-fn sift(
-    alloc: Global,
-    clauses: &[Clause],
-    live: &[usize],
-    clause: &Clause,
-) -> Result<Vec<usize>, Memory>
-    requires range { (n : ℕ) → Member n live.now → n < length clauses.now }
-    ensures { IfOk result (λ v. Sifts clauses.now clause.now live.now v.items) }
+/// The live numbers that are not among the dead ones. One walk over both for each.
+fn sift(alloc: Global, live: &[usize], dead: &[usize]) -> Result<Vec<usize>, Memory>
+    ensures { IfOk result (λ after. Leaves dead.now live.now after.items) }
 {
-    let mut after = Vec::new(alloc);
+    let mut after = Vec::with_capacity(alloc, live.len())?;
     'numbers: for n in live {
         let at = *n;
-        let held = &clauses[at];
-        if !clause.within(held) {
+        if !dead.contains(&at) {
             after.push(at)?;
         }
     }

@@ -1,17 +1,29 @@
-use Rattle.std.proofs.Common.{ℕ, List, sym, subst}
-use Rattle.std.proofs.lemmas.Bool.{OnFalse_at}
+use Rattle.std.proofs.Common.{◌↔◌, ℕ, List, subst}
 use Rattle.cd_base.specs.Lists.{Member}
-use Rattle.cd_store.proofs.Leasts.{sifts_none}
+use Rattle.cd_base.proofs.Members.{not_true}
+use Rattle.cd_store.proofs.Leasts.{some_listed, sifts_none}
+use Rattle.cd_store.proofs.Helpers.{sifted}
+use Rattle.cd_store.specs.Sift.{IsSuperset, Leaves}
 use Rattle.cd_store.proofs.store.replace.Goals as goal
 
-pub sift-requires : goal.sift-requires
-sift-requires c = record { range = λ n m. c.requires.store.in_range n (subst (λ (l : List ℕ). Member n l) c.as_slice-then-has_live_superset.ensures.value m) }
+pub returns-then-is_empty-clause-ok : goal.returns-then-is_empty-clause-ok
+returns-then-is_empty-clause-ok c =
+    let live = c.args.live.now.items in let cs = c.args.clauses.now in
+    let dead = c.in_ok-dead.dead.items in
+    let h : (n : ℕ) → Member n dead ↔ IsSuperset cs live c.args.clause.now n
+    = subst (λ (l : List ℕ). (n : ℕ) → Member n dead ↔ IsSuperset cs l c.args.clause.now n) c.as_slice.ensures.value c.in_ok-dead.ensures in (
+      live,
+      sifts_none cs c.args.clause.now live (λ n m w. not_true c.is_empty.result (some_listed c.as_slice-2.result.now dead c.is_empty.result n c.as_slice-2.ensures.value c.is_empty.ensures ((h n).1 (m, w))) c.if-is_empty.true),
+      c.in_ok-push.ensures.items,
+    )
 
 pub returns-clause-ok : goal.returns-clause-ok
 returns-clause-ok c =
-    let live = c.args.live.now.items in let cs = c.args.clauses.now in (
-      live,
-      sifts_none cs c.args.clause.now live (λ n m w.
-          OnFalse_at c.if-has_live_superset.false c.has_live_superset.ensures n (subst (λ (l : List ℕ). Member n l) (sym c.as_slice.ensures.value) m) w),
-      c.in_ok-push-2.ensures.items,
-    )
+    let live = c.args.live.now.items in let cs = c.args.clauses.now in
+    let dead = c.in_ok-dead.dead.items in
+    let h : (n : ℕ) → Member n dead ↔ IsSuperset cs live c.args.clause.now n
+    = subst (λ (l : List ℕ). (n : ℕ) → Member n dead ↔ IsSuperset cs l c.args.clause.now n) c.as_slice.ensures.value c.in_ok-dead.ensures in
+    let leaves : Leaves dead live c.in_ok-after.after.items
+    = subst (λ (l : List ℕ). Leaves l live c.in_ok-after.after.items) c.as_slice-4.ensures.value
+    (subst (λ (l : List ℕ). Leaves c.as_slice-4.result.now l c.in_ok-after.after.items) c.as_slice-3.ensures.value c.in_ok-after.ensures) in
+    (c.in_ok-after.after.items, sifted cs c.args.clause.now live dead c.in_ok-after.after.items h leaves, c.in_ok-push-2.ensures.items)

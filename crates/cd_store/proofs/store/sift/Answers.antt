@@ -1,28 +1,18 @@
-use Rattle.std.proofs.Common.{◌≡◌, ◌<◌, [], take, sym, ◌∙◌, subst, arith, length, get_or}
-use Rattle.std.proofs.lemmas.Grind.{common_steps}
+use Rattle.std.proofs.Common.{◌==◌, ℕ, take, get_or, refl, sym, ◌∙◌, subst, eqb-true, eq-eqb}
+use Rattle.std.proofs.lemmas.Bool.{both_ways}
 use Rattle.std.proofs.lemmas.List.{take_more}
-use Rattle.cd_base.specs.Lists.{Within}
-use Rattle.cd_base.proofs.Members.{member_get}
-use Rattle.cd_store.proofs.Helpers.{sift_keep, sift_drop, get_same}
+use Rattle.cd_base.specs.Lists.{Member}
+use Rattle.cd_base.proofs.Members.{any_by_member, any_member}
+use Rattle.cd_store.proofs.Helpers.{sift_keep, sift_drop}
 use Rattle.cd_store.proofs.store.sift.Goals as goal
-use Rattle.cd_store.proofs.store.sift.Goals.{then-not-within+in_ok-push, else-not-within}
-
-pub offset_bounds-clauses-at : goal.offset_bounds-clauses-at
-offset_bounds-clauses-at c =
-    let h : get_or c.args.live.now c.numbers.n-index 0 < length c.args.clauses.now = c.requires.range _ (member_get c.args.live.now c.numbers.n-index 0 c.numbers-test.true) in
-    grind (arith, common_steps)
-
-pub bounds-clauses-at : goal.bounds-clauses-at
-bounds-clauses-at c = c.requires.range _ (member_get c.args.live.now c.numbers.n-index 0 c.numbers-test.true)
+use Rattle.cd_store.proofs.store.sift.Goals.{then-not-contains+in_ok-push, else-not-contains}
 
 pub numbers-preserved : goal.numbers-preserved
 numbers-preserved c =
-    let cs = c.args.clauses.now in let i = c.numbers.n-index in let n = get_or c.args.live.now i 0 in
-    let l : n < length cs = c.requires.range _ (member_get c.args.live.now i 0 c.numbers-test.true) in
-    let same : c.index-clauses-at.result ≡ get_or cs n [] = c.index-clauses-at.is ∙ get_same cs n c.index-clauses-at.result [] l in
-    elim c.if-not-within.branch [
-      | then-not-within+in_ok-push w ↦ rw (take_more c.args.live.now i 0 c.numbers-test.true, w.after-is, w.in_ok-push.ensures.items)
-          (sift_keep cs c.args.clause.now (take i c.args.live.now) c.numbers.after.items n c.numbers.invariant (λ v. let h = c.within.ensures.1 (subst (λ q. Within c.args.clause.now q) (sym same) v) in let k = w.if-not-within.true in cc))
-      | else-not-within w ↦ rw (take_more c.args.live.now i 0 c.numbers-test.true, w.after-is)
-          (sift_drop cs c.args.clause.now (take i c.args.live.now) c.numbers.after.items n c.numbers.invariant (subst (λ q. Within c.args.clause.now q) same (c.within.ensures.0 w.if-not-within.false)))
+    let dead = c.args.dead.now in let i = c.numbers.n-index in let n : ℕ = get_or c.args.live.now i 0 in
+    elim c.if-not-contains.branch [
+      | then-not-contains+in_ok-push w ↦ rw (take_more c.args.live.now i 0 c.numbers-test.true, w.after-is, w.in_ok-push.ensures.items)
+          (sift_keep dead (take i c.args.live.now) c.numbers.after.items n c.numbers.invariant (λ m. both_ways c.contains.result w.if-not-contains.true (c.contains.ensures.value ∙ any_by_member (λ (y : ℕ). y == n) dead n m (eq-eqb n n refl))))
+      | else-not-contains w ↦ rw (take_more c.args.live.now i 0 c.numbers-test.true, w.after-is)
+          (sift_drop dead (take i c.args.live.now) c.numbers.after.items n c.numbers.invariant (let k = any_member (λ (y : ℕ). y == n) dead (sym c.contains.ensures.value ∙ w.if-not-contains.false) in subst (λ (z : ℕ). Member z dead) (eqb-true k.0 n k.2) k.1))
     ]

@@ -1,0 +1,36 @@
+use Rattle.std.proofs.Common.{◌∷◌, ℕ, List, [], get_or, inl, inr, sym, subst, arith}
+use Rattle.std.proofs.lemmas.Bool.{both_ways}
+use Rattle.cd_base.specs.Lists.{Member}
+use Rattle.cd_base.proofs.Members.{member_cases}
+use Rattle.cd_store.specs.Sift.{IsSuperset}
+use Rattle.cd_store.proofs.Gaining.{gain_goes, gain_list, gain_none}
+use Rattle.cd_store.proofs.Helpers.{IsSupersetAt, superset_place}
+use Rattle.cd_store.proofs.store.push_supersets.Goals.{then-is_superset+in_ok-push, else-is_superset}
+use Rattle.cd_store.proofs.store.push_supersets.Goals as goal
+
+pub numbers-preserved : goal.numbers-preserved
+numbers-preserved c =
+    let P : ℕ → Type 0 = IsSuperset c.args.clauses.now c.args.live.now c.args.clause.now in
+    let Q : ℕ → ℕ → Type 0 = IsSupersetAt c.args.numbers.now c.args.clauses.now c.args.live.now c.args.clause.now in
+    let old = c.args.found.now.items in
+    let mid = c.numbers.found.items in
+    let x : ℕ = get_or c.args.numbers.now c.numbers.i 0 in
+    elim c.if-is_superset.branch [
+      | then-is_superset+in_ok-push w ↦ rw w.found-is record {
+        every = gain_goes Q c.numbers.i old mid w.push.new.self.items c.numbers.invariant.every (gain_list (Q c.numbers.i) mid w.push.new.self.items (x ∷ []) w.in_ok-push.ensures.items (λ n q. inl q.0));
+        only = λ n m. elim (member_cases n mid (x ∷ []) (subst (λ (l : List ℕ). Member n l) w.in_ok-push.ensures.items m)) [
+          | inl h ↦ c.numbers.invariant.only n h
+          | inr h ↦ elim h [ inl e ↦ inr (subst P (sym e) (c.is_superset.ensures.0 w.if-is_superset.true)) | inr z ↦ absurd z ]
+        ];
+      }
+      | else-is_superset w ↦ rw w.found-is record {
+        every = gain_goes Q c.numbers.i old mid mid c.numbers.invariant.every (gain_none (Q c.numbers.i) mid (λ n q. both_ways c.is_superset.result w.if-is_superset.false (c.is_superset.ensures.1 (subst P q.0 q.1))));
+        only = c.numbers.invariant.only;
+      }
+    ]
+
+pub returns-clause-every : goal.returns-clause-every
+returns-clause-every c = λ n q. c.numbers.invariant.every n (elim q [
+  | inl m ↦ inl m
+  | inr h ↦ (let p = superset_place c.args.numbers.now c.args.clauses.now c.args.live.now c.args.clause.now n h in inr (p.0, omega (arith, p.1, c.numbers-test.false), p.2))
+])
