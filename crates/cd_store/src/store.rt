@@ -1,5 +1,5 @@
 //! The store of a context.
-ghost use Rattle.std.specs.Prelude.{◌≡◌, ◌↔◌, ◌∷◌, ◌++◌, ◌⊎◌, ℕ, List, [], true, IfOk, IfSome, OnOk, OnErr, reverse};
+ghost use Rattle.std.specs.Prelude.{◌≡◌, ◌<◌, ◌↔◌, ◌∷◌, ◌++◌, ◌⊎◌, ℕ, List, [], length, true, IfOk, IfSome, OnOk, OnErr, reverse};
 ghost use Rattle.cd_base.specs.Lists.{Member};
 ghost use Rattle.cd_clause.specs.declared.elem.Elem.{Elem};
 ghost use Rattle.cd_clause.specs.declared.elem.Elem.TheVariants.{Exist, Plain};
@@ -14,6 +14,9 @@ use cd_base::{Atom, Key, Memory, Role};
 use cd_clause::Clause;
 use std::alloc::Global;
 use std::marker::Model;
+
+/// Of so many dead numbers at most, each live one is compared with each; of more, the clauses are compared once more.
+const FEW: usize = 8;
 
 /// What adding a clause came to.
 #[derive(Clone, Copy, Debug, PartialEq, Eq)]
@@ -83,8 +86,8 @@ impl Store {
 
     /// Stores the clause under the next number and makes it live, and makes its live supersets dead; or changes nothing, where a live
     /// clause is a subset of it. A look-up for each element of the clause; for each stored clause that may end in an
-    /// element of it or have its last one, logarithmic in the live ones, and a walk over both where that one is live; and where a
-    /// superset dies, a walk over the numbers of the live ones.
+    /// element of it or have its last one, logarithmic in the live ones, and a walk over both where that one is live; and where
+    /// supersets die, a walk over the numbers of the live ones, or, where many die at once, over the clause and each live one.
     pub fn add(&mut self, alloc: Global, clause: Clause) -> Result<Added, Memory>
         ensures ok { IfOk result (λ a. IsOutcome self.old clause self.new a) }
         ensures err { OnErr result (self.new ≡ self.old) }
@@ -185,7 +188,7 @@ fn replace(
         live.push(number)?;
         return Ok(());
     }
-    let mut after = sift(alloc, live.as_slice(), dead.as_slice())?;
+    let mut after = sift(alloc, clauses, live.as_slice(), clause, dead.as_slice())?;
     after.push(number)?;
     *live = after;
     Ok(())
@@ -248,16 +251,43 @@ fn is_superset(clauses: &[Clause], live: &[usize], clause: &Clause, number: usiz
     clause.within(&clauses[number])
 }
 
-/// The live numbers that are not among the dead ones. One walk over both for each.
-fn sift(alloc: Global, live: &[usize], dead: &[usize]) -> Result<Vec<usize>, Memory>
+/// The live numbers that are not among the dead ones, which are all live supersets of the clause. Costs `is_dead` for each.
+fn sift(
+    alloc: Global,
+    clauses: &[Clause],
+    live: &[usize],
+    clause: &Clause,
+    dead: &[usize],
+) -> Result<Vec<usize>, Memory>
+    requires range { (n : ℕ) → Member n live.now → n < length clauses.now }
+    requires dead { (n : ℕ) → Member n dead.now ↔ IsSuperset clauses.now live.now clause.now n }
     ensures { IfOk result (λ after. Leaves dead.now live.now after.items) }
 {
     let mut after = Vec::with_capacity(alloc, live.len())?;
     'numbers: for n in live {
         let at = *n;
-        if !dead.contains(&at) {
+        if !is_dead(clauses, live, clause, dead, at) {
             after.push(at)?;
         }
     }
     Ok(after)
+}
+
+/// Whether a live number is among the dead ones. A look at each of these where they are few, and else a walk over both clauses.
+fn is_dead(
+    clauses: &[Clause],
+    live: &[usize],
+    clause: &Clause,
+    dead: &[usize],
+    number: usize,
+) -> bool
+    requires range { number < length clauses.now }
+    requires live { Member number live.now }
+    requires dead { (n : ℕ) → Member n dead.now ↔ IsSuperset clauses.now live.now clause.now n }
+    ensures { (result ≡ true) ↔ Member number dead.now }
+{
+    if dead.len() <= FEW {
+        return dead.contains(&number);
+    }
+    clause.within(&clauses[number])
 }

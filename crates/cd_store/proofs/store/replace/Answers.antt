@@ -1,4 +1,4 @@
-use Rattle.std.proofs.Common.{◌↔◌, ℕ, List, subst}
+use Rattle.std.proofs.Common.{◌↔◌, ℕ, List, subst, sym}
 use Rattle.cd_base.specs.Lists.{Member}
 use Rattle.cd_base.proofs.Members.{not_true}
 use Rattle.cd_store.proofs.Leasts.{some_listed, sifts_none}
@@ -27,3 +27,14 @@ returns-clause-ok c =
     = subst (λ (l : List ℕ). Leaves l live c.in_ok-after.after.items) c.as_slice-4.ensures.value
     (subst (λ (l : List ℕ). Leaves c.as_slice-4.result.now l c.in_ok-after.after.items) c.as_slice-3.ensures.value c.in_ok-after.ensures) in
     (c.in_ok-after.after.items, sifted cs c.args.clause.now live dead c.in_ok-after.after.items h leaves, c.in_ok-push-2.ensures.items)
+
+pub sift-requires-clause-dead : goal.sift-requires-clause-dead
+sift-requires-clause-dead c = λ n.
+    let cs = c.args.clauses.now in let clause = c.args.clause.now in
+    let h : Member n c.in_ok-dead.dead.items ↔ IsSuperset cs c.args.live.now.items clause n
+    = subst (λ (l : List ℕ). Member n c.in_ok-dead.dead.items ↔ IsSuperset cs l clause n) c.as_slice.ensures.value (c.in_ok-dead.ensures n) in
+    subst (λ (l : List ℕ). Member n l ↔ IsSuperset cs c.as_slice-3.result.now clause n) (sym c.as_slice-4.ensures.value)
+    (subst (λ (l : List ℕ). Member n c.in_ok-dead.dead.items ↔ IsSuperset cs l clause n) (sym c.as_slice-3.ensures.value) h)
+
+pub sift-requires-clause-range : goal.sift-requires-clause-range
+sift-requires-clause-range c = λ n m. c.requires.store.in_range n (subst (λ (l : List ℕ). Member n l) c.as_slice-3.ensures.value m)
