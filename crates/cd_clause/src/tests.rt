@@ -65,6 +65,21 @@ fn an_element_comes_once(rt: HostRuntime) {
     );
 }
 
+/// Whether a copy of the element is that element.
+fn is_copied(rt: &impl Abort, elem: &Elem) -> bool {
+    let copy = elem.copy().expect(rt, "memory");
+    copy.is_same(elem)
+}
+
+#[test]
+fn a_copy_of_an_element_is_the_same_element(rt: HostRuntime) {
+    assert!(rt; is_copied(&rt, &plain(0)));
+    assert!(rt; is_copied(&rt, &plain(4)));
+    assert!(rt; is_copied(&rt, &exist(rt.alloc(), 1, 4)));
+    let copy = exist(rt.alloc(), 1, 4).copy().expect(&rt, "memory");
+    assert!(rt; !copy.is_same(&exist(rt.alloc(), 0, 4)));
+}
+
 #[test]
 fn a_copy_has_the_same_elements(rt: HostRuntime) {
     let two = clause(&rt, rt.alloc(), &[plain(3), plain(4)]);

@@ -1,6 +1,6 @@
 -- What the calls of a source and of a sink do.
-use Rattle.std.specs.Prelude.{◌≡◌, ℕ, ◌<◌, Bool, false, ◌==◌, List, length, take, Result, Ok, Err, Option, OnOk, IfOk}
-use Rattle.std.specs.Io.KnownBytes.{Appends}
+use Rattle.std.specs.Prelude.{◌≡◌, ℕ, ◌<◌, ◌≤◌, Bool, false, ◌==◌, List, length, take, Result, Ok, Err, Option, OnOk, IfOk}
+use Rattle.std.specs.Io.KnownBytes.{Appends, Consumes}
 
 -- whether a read answered that there are no more bytes
 abbrev pub answers_none : {E : Type 0} → Result ℕ E → Bool
@@ -30,3 +30,7 @@ AppendsPart old new piece = (n : ℕ) × (n < length piece) × Appends old new (
 -- a read that answers Ok leaves what stands behind
 abbrev pub KeepsAtOk : {E : Type 0} → Option (List ℕ) → Option (List ℕ) → Result ℕ E → Type 0
 KeepsAtOk old new result = OnOk result (new ≡ old)
+
+-- known bytes lose at most so many, from the front
+abbrev pub LosesAtMost : Option (List ℕ) → Option (List ℕ) → ℕ → Type 0
+LosesAtMost old new most = (taken : List ℕ) × Consumes old new taken × (length taken ≤ most)

@@ -9,7 +9,7 @@ use Rattle.cd_meaning.specs.declared.expression.Axiom.TheVariants.{SubClass, Sam
 use Rattle.cd_meaning.specs.declared.interpretation.Edge.{Edge}
 use Rattle.cd_meaning.specs.declared.interpretation.Interpretation.{Interpretation}
 use Rattle.cd_meaning.specs.Membership.{class_has, member}
-use Rattle.cd_meaning.specs.Truth.{has_edge, Holds, IsBelow, IsApart, IsSubRole, IsDistinctlyApart, HasSameMembers, HasSameEdges, EveryTwo}
+use Rattle.cd_meaning.specs.Truth.{has_edge, Holds, IsBelow, AreDisjoint, IsSubRole, IsDistinctlyApart, HasSameMembers, HasSameEdges, EveryTwo}
 use Rattle.cd_meaning.specs.MembershipTable.{member-Join}
 use Rattle.cd_nnf.specs.Nnf.{nnf}
 use Rattle.cd_nnf.proofs.Members.{nnf_same}
@@ -114,13 +114,13 @@ module _ (i j : Interpretation) (size : j.size ≡ i.size) (roles : j.roles ≡ 
     abbrev Union : List Expr → ℕ → Type 0
     Union before p = (x : ℕ) → x < i.size → in_atom j p x ≡ list_any (λ e. member i e x) before
 
-    union_apart : (before : List Expr) (p : ℕ) (e : Expr) (y : ℕ) → Union before p → Stands e y → ((b : Expr) → Member b before → IsApart i b e) → HoldsNormal j (implies (y ∷ p ∷ []) [])
+    union_apart : (before : List Expr) (p : ℕ) (e : Expr) (y : ℕ) → Union before p → Stands e y → ((b : Expr) → Member b before → AreDisjoint i b e) → HoldsNormal j (implies (y ∷ p ∷ []) [])
     union_apart before p e y u s h = clash_true i j size roles y p (λ x l w v.
         let r = any_member (λ e. member i e x) before (sym (u x l) ∙ v) in
         h r.0 r.1 x l r.2 (sym (s x l) ∙ w))
 
     chain_true : (k : ℕ) (before : List Expr) (p : ℕ) (es : List Expr) (xs : List ℕ) (axs : List NormalAxiom) → Chain classes Fresh k before p es xs axs → Union before p → Paired Stands es xs
-        → Pairs (IsApart i) es → ((b e : Expr) → Member b before → Member e es → IsApart i b e) → AllHold j axs
+        → Pairs (AreDisjoint i) es → ((b e : Expr) → Member b before → Member e es → AreDisjoint i b e) → AllHold j axs
     chain_true k before p [] xs axs g u s pairs h = absurd g
     chain_true k before p (e ∷ []) [] axs g u s pairs h = absurd g
     chain_true k before p (e ∷ f ∷ es) [] axs g u s pairs h = absurd g
@@ -136,9 +136,9 @@ module _ (i j : Interpretation) (size : j.size ≡ i.size) (roles : j.roles ≡ 
         (add i j size roles (implies (y ∷ p ∷ []) []) more
         (union_apart before p e y u s.0 (λ b m. h b e m (inl refl)))
         (chain_true k (e ∷ before) q (f ∷ es) ys more g next s.1 pairs.1
-        (λ b d m n. elim m [ inl is ↦ subst (λ c. IsApart i c d) (sym is) (pairs.0 d n) | inr w ↦ h b d w (inr n) ])))))
+        (λ b d m n. elim m [ inl is ↦ subst (λ c. AreDisjoint i c d) (sym is) (pairs.0 d n) | inr w ↦ h b d w (inr n) ])))))
 
-    kept_true : (k : ℕ) (kept : List Expr) (axs : List NormalAxiom) → UsesApart classes Fresh k kept axs → Pairs (IsApart i) kept → AllHold j axs
+    kept_true : (k : ℕ) (kept : List Expr) (axs : List NormalAxiom) → UsesApart classes Fresh k kept axs → Pairs (AreDisjoint i) kept → AllHold j axs
     kept_true k [] axs u pairs = become i j size roles axs _ u (none i j size roles)
     kept_true k (e ∷ []) axs u pairs = become i j size roles axs _ u (none i j size roles)
     kept_true k (e ∷ f ∷ []) axs (xs, a, b, u, g, gives) pairs =
@@ -157,12 +157,12 @@ module _ (i j : Interpretation) (size : j.size ≡ i.size) (roles : j.roles ≡ 
         (become i j size roles b _ is (add i j size roles (implies (y ∷ []) (p ∷ [])) more
         (step_true i j size roles y p (λ x l w. union x l ∙ or_left (member i e x) false (sym (s.0 x l) ∙ w)))
         (chain_true k (e ∷ []) p (f ∷ g ∷ es) ys more by union s.1 pairs.1
-        (λ b d m n. elim m [ inl is ↦ subst (λ c. IsApart i c d) (sym is) (pairs.0 d n) | inr w ↦ absurd w ]))))
+        (λ b d m n. elim m [ inl is ↦ subst (λ c. AreDisjoint i c d) (sym is) (pairs.0 d n) | inr w ↦ absurd w ]))))
         (theirs false (map nnf (e ∷ f ∷ g ∷ es)) (y ∷ ys) a u))
 
     disjoint_true : (k : ℕ) (l : List Expr) (axs : List NormalAxiom) → GivesApart classes Fresh k l axs → EveryTwo (IsDistinctlyApart i) l → AllHold j axs
     disjoint_true k l axs (kept, is, u) h = kept_true k kept axs u
-        (pairs_map (λ c d. c ≢ d) (IsApart i) kept (λ c d m n apart. two_at (IsDistinctlyApart i) l h c d (kept_in [] l kept is c m).0 (kept_in [] l kept is d n).0 apart) (kept_pairs [] l kept is))
+        (pairs_map (λ c d. c ≢ d) (AreDisjoint i) kept (λ c d m n apart. two_at (IsDistinctlyApart i) l h c d (kept_in [] l kept is c m).0 (kept_in [] l kept is d n).0 apart) (kept_pairs [] l kept is))
 
     gives_true : 0 < classes → (k : ℕ) (stated : Axiom) (axs : List NormalAxiom) → Gives classes Fresh k stated axs → Holds i stated → AllHold j axs
     gives_true some k (SubClass c d) axs (x, y, a, b, u, v, gives) h = become i j size roles axs _ gives

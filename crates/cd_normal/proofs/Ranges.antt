@@ -7,8 +7,7 @@ use Rattle.cd_meaning.specs.declared.expression.Expr.TheVariants.{Name}
 use Rattle.cd_meaning.specs.Numbered.{is_below}
 use Rattle.cd_meaning.specs.NormalAxioms.{NormalAxiom, n1, n2, n3, n4, n5, implies, triple}
 use Rattle.cd_base.specs.Lists.{Member}
-use Rattle.cd_base.specs.Normal.{are_below, has_atoms_below, has_roles_below}
-use Rattle.cd_base.specs.Normal.{has_numbers_below as has_triple_below}
+use Rattle.cd_base.specs.Normal.{are_below, has_atoms_below, is_triple_below, has_roles_below}
 use Rattle.cd_nnf.specs.Nnf.{nnf, nnf_not}
 use Rattle.std.specs.List.{AllByRecursion}
 use Rattle.cd_meaning.specs.Induction.{induct}
@@ -60,9 +59,9 @@ module _ (classes roles : ℕ) where
 -- its numbers are below these
 abbrev pub Within : ℕ → ℕ → NormalAxiom → Type 0
 Within atoms roles (n1 c) = has_atoms_below atoms c ≡ true
-Within atoms roles (n2 t) = has_triple_below atoms roles t ≡ true
-Within atoms roles (n3 t) = has_triple_below atoms roles t ≡ true
-Within atoms roles (n4 t) = has_triple_below atoms roles t ≡ true
+Within atoms roles (n2 t) = is_triple_below atoms roles t ≡ true
+Within atoms roles (n3 t) = is_triple_below atoms roles t ≡ true
+Within atoms roles (n4 t) = is_triple_below atoms roles t ≡ true
 Within atoms roles (n5 p) = has_roles_below roles p ≡ true
 
 and_three : (p q r : Bool) → p ≡ true → q ≡ true → r ≡ true → (p && q && r) ≡ true
@@ -87,7 +86,7 @@ module _ (atoms roles : ℕ) where
   pub implies_within : (l r : List ℕ) → ((a : ℕ) → Member a l → a < atoms) → ((a : ℕ) → Member a r → a < atoms) → Within atoms roles (implies l r)
   implies_within l r h k = and_from (are_below atoms l) (are_below atoms r) (all_by_member (λ n. nat_lt n atoms) l (λ a m. lt-ltb a atoms (h a m))) (all_by_member (λ n. nat_lt n atoms) r (λ a m. lt-ltb a atoms (k a m)))
 
-  pub triple_within : (a r b : ℕ) → a < atoms → nat_lt r roles ≡ true → b < atoms → has_triple_below atoms roles (triple a r b) ≡ true
+  pub triple_within : (a r b : ℕ) → a < atoms → nat_lt r roles ≡ true → b < atoms → is_triple_below atoms roles (triple a r b) ≡ true
   triple_within a r b ha hr hb = and_three (nat_lt a atoms) (nat_lt r roles) (nat_lt b atoms) (lt-ltb a atoms ha) hr (lt-ltb b atoms hb)
 
   pub none_within : (a : NormalAxiom) → Member a [] → Within atoms roles a

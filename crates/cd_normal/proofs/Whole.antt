@@ -7,8 +7,7 @@ use Rattle.cd_meaning.specs.Numbered.{has_numbers_below}
 use Rattle.cd_meaning.specs.NormalAxioms.{NormalAxiom, n1, n2, n3, n4, n5, HasNormal, implies}
 use Rattle.cd_base.specs.declared.normal.Normal.{Normal}
 use Rattle.cd_base.specs.Lists.{Member}
-use Rattle.cd_base.specs.Normal.{has_atoms_below, has_roles_below}
-use Rattle.cd_base.specs.Normal.{has_numbers_below as has_triple_below}
+use Rattle.cd_base.specs.Normal.{has_atoms_below, is_triple_below, has_roles_below}
 use Rattle.cd_normal.specs.declared.maker.Maker.{Maker}
 use Rattle.cd_normal.specs.Uses.{Label}
 use Rattle.cd_normal.specs.Method.{IsFresh, GivesFrom, IsByMethod}
@@ -72,14 +71,14 @@ module _ (document : Document) (m : Maker) (by : IsMadeOf (length document.class
   pub n1_in : list_all (has_atoms_below m.next) m.n1.items ≡ true
   n1_in = all_by_member (has_atoms_below m.next) m.n1.items (λ c h. numbers (n1 c) ((by.have (n1 c)).0 h))
 
-  pub n2_in : (roles : ℕ) → roles ≡ length document.roles → list_all (has_triple_below m.next roles) m.n2.items ≡ true
-  n2_in roles is = ap (λ r. list_all (has_triple_below m.next r) m.n2.items) is ∙ all_by_member (has_triple_below m.next (length document.roles)) m.n2.items (λ t h. numbers (n2 t) ((by.have (n2 t)).0 h))
+  pub n2_in : (roles : ℕ) → roles ≡ length document.roles → list_all (is_triple_below m.next roles) m.n2.items ≡ true
+  n2_in roles is = ap (λ r. list_all (is_triple_below m.next r) m.n2.items) is ∙ all_by_member (is_triple_below m.next (length document.roles)) m.n2.items (λ t h. numbers (n2 t) ((by.have (n2 t)).0 h))
 
-  pub n3_in : (roles : ℕ) → roles ≡ length document.roles → list_all (has_triple_below m.next roles) m.n3.items ≡ true
-  n3_in roles is = ap (λ r. list_all (has_triple_below m.next r) m.n3.items) is ∙ all_by_member (has_triple_below m.next (length document.roles)) m.n3.items (λ t h. numbers (n3 t) ((by.have (n3 t)).0 h))
+  pub n3_in : (roles : ℕ) → roles ≡ length document.roles → list_all (is_triple_below m.next roles) m.n3.items ≡ true
+  n3_in roles is = ap (λ r. list_all (is_triple_below m.next r) m.n3.items) is ∙ all_by_member (is_triple_below m.next (length document.roles)) m.n3.items (λ t h. numbers (n3 t) ((by.have (n3 t)).0 h))
 
-  pub n4_in : (roles : ℕ) → roles ≡ length document.roles → list_all (has_triple_below m.next roles) m.n4.items ≡ true
-  n4_in roles is = ap (λ r. list_all (has_triple_below m.next r) m.n4.items) is ∙ all_by_member (has_triple_below m.next (length document.roles)) m.n4.items (λ t h. numbers (n4 t) ((by.have (n4 t)).0 h))
+  pub n4_in : (roles : ℕ) → roles ≡ length document.roles → list_all (is_triple_below m.next roles) m.n4.items ≡ true
+  n4_in roles is = ap (λ r. list_all (is_triple_below m.next r) m.n4.items) is ∙ all_by_member (is_triple_below m.next (length document.roles)) m.n4.items (λ t h. numbers (n4 t) ((by.have (n4 t)).0 h))
 
   pub n5_in : (roles : ℕ) → roles ≡ length document.roles → list_all (has_roles_below roles) m.n5.items ≡ true
   n5_in roles is = ap (λ r. list_all (has_roles_below r) m.n5.items) is ∙ all_by_member (has_roles_below (length document.roles)) m.n5.items (λ p h. numbers (n5 p) ((by.have (n5 p)).0 h))

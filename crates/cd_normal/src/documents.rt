@@ -1,8 +1,7 @@
 //! The normal axioms of a document.
 ghost use Rattle.std.specs.Prelude.{◌≡◌, ◌≤◌, ◌<◌, ◌+◌, ◌*◌, ◌-◌, ◌^◌, ◌++◌, ℕ, true, false, length, replicate, IsTrue, IfOk};
 ghost use Rattle.std.specs.List.{list_all};
-ghost use Rattle.cd_base.specs.Normal.{has_atoms_below, has_roles_below};
-ghost use Rattle.cd_base.specs.Normal.{has_numbers_below as has_triple_below};
+ghost use Rattle.cd_base.specs.Normal.{has_atoms_below, is_triple_below, has_roles_below};
 ghost use Rattle.cd_meaning.specs.Nodes.{nodes};
 ghost use Rattle.cd_meaning.specs.Numbered.{has_numbers_below};
 ghost use Rattle.cd_normal.specs.Made.{IsMadeOf, count, role_operands, rows};
@@ -88,9 +87,9 @@ fn more_flags(made: &mut Vec<bool>, flag: bool, number: u32) -> Result<(), Memor
 fn packed(maker: Maker, named: Vec<bool>, roles: u32) -> Normal
     requires flags { length named.items ≡ maker.next }
     requires n1_within { IsTrue (list_all (has_atoms_below maker.next) maker.n1.items) }
-    requires n2_within { IsTrue (list_all (has_triple_below maker.next roles) maker.n2.items) }
-    requires n3_within { IsTrue (list_all (has_triple_below maker.next roles) maker.n3.items) }
-    requires n4_within { IsTrue (list_all (has_triple_below maker.next roles) maker.n4.items) }
+    requires n2_within { IsTrue (list_all (is_triple_below maker.next roles) maker.n2.items) }
+    requires n3_within { IsTrue (list_all (is_triple_below maker.next roles) maker.n3.items) }
+    requires n4_within { IsTrue (list_all (is_triple_below maker.next roles) maker.n4.items) }
     requires n5_within { IsTrue (list_all (has_roles_below roles) maker.n5.items) }
     ensures atoms { result.atoms ≡ maker.next }
     ensures named { result.named ≡ named.items }

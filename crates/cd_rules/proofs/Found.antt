@@ -4,7 +4,7 @@ use Rattle.std.specs.Prelude.{nat_lt}
 use Rattle.std.specs.List.{list_all, range_with_len}
 use Rattle.std.proofs.lemmas.Bool.{and_parts, both_ways, cases_eq, cond_both, ltb-true}
 use Rattle.cd_base.specs.Lists.{Member}
-use Rattle.cd_base.specs.Normal.{has_atoms_below, has_numbers_below, has_roles_below, Under, same, step}
+use Rattle.cd_base.specs.Normal.{has_atoms_below, is_triple_below, has_roles_below, Under, same, step}
 use Rattle.cd_base.specs.declared.normal.Conj.{Conj}
 use Rattle.cd_base.specs.declared.normal.RolePair.{RolePair}
 use Rattle.cd_base.specs.declared.normal.Triple.{Triple}
@@ -55,13 +55,13 @@ found_at_atom triples atom found is t =
     )
 
 -- none has an atom that is out of range
-pub none_at_atom : (atoms roles : ℕ) (triples : List Triple) (atom : ℕ) → list_all (has_numbers_below atoms roles) triples ≡ true → atoms ≤ atom → AreAtAtom triples atom []
+pub none_at_atom : (atoms roles : ℕ) (triples : List Triple) (atom : ℕ) → list_all (is_triple_below atoms roles) triples ≡ true → atoms ≤ atom → AreAtAtom triples atom []
 none_at_atom atoms roles triples atom below out t = (
   λ m. absurd m,
-  λ h. let lt : t.atom < atoms = atom_of_triple atoms roles t (all_member (has_numbers_below atoms roles) triples below t h.0) in absurd (omega (arith, h.1)),
+  λ h. let lt : t.atom < atoms = atom_of_triple atoms roles t (all_member (is_triple_below atoms roles) triples below t h.0) in absurd (omega (arith, h.1)),
 )
   where
-    atom_of_triple : (atoms roles : ℕ) (t : Triple) → has_numbers_below atoms roles t ≡ true → t.atom < atoms
+    atom_of_triple : (atoms roles : ℕ) (t : Triple) → is_triple_below atoms roles t ≡ true → t.atom < atoms
     atom_of_triple atoms roles t e =
         ltb-true t.atom atoms (and_parts (nat_lt t.atom atoms) (nat_lt t.role roles) (and_parts (nat_lt t.atom atoms && nat_lt t.role roles) (nat_lt t.other atoms) e).0).0
 

@@ -116,7 +116,7 @@ fn from_clause(rt: &impl Abort, alloc: Global, index: &Index, clauses: &[Clause]
 {
     let key = Key::single(alloc, Atom(2));
     let mut out = Vec::new(alloc);
-    on_clause(alloc, index, &key, clauses, &[], 0, &[], &[], &mut out).expect(rt, "memory");
+    on_clause(alloc, index, &key, clauses, &[0], 0, &[], &[], &mut out).expect(rt, "memory");
     out
 }
 
@@ -157,7 +157,8 @@ fn are_written(rt: &impl Abort, alloc: Global, clauses: &[Clause], text: &str) -
 fn a_key_gives_its_atoms_and_what_always_holds(rt: HostRuntime) {
     let index = hand_made(&rt, rt.alloc());
     let out = from_key(&rt, rt.alloc(), &index);
-    assert_eq!(rt; out.len(), 2);
+    let text = "[Clause { elems: [Plain(Atom(2))] }, Clause { elems: [Plain(Atom(0))] }]";
+    assert!(rt; are_written(&rt, rt.alloc(), &out, text));
     drop(index);
 }
 
@@ -185,6 +186,6 @@ fn a_back_keeps_the_existential_with_the_atom_negated(rt: HostRuntime) {
 fn a_dead_gives_the_rest_of_the_clause(rt: HostRuntime) {
     let index = hand_made(&rt, rt.alloc());
     let out = from_dead(&rt, rt.alloc(), &index, &edge_to_four(&rt, rt.alloc()));
-    assert_eq!(rt; out.len(), 1);
+    assert!(rt; are_written(&rt, rt.alloc(), &out, "[Clause { elems: [] }]"));
     drop(index);
 }
