@@ -1,5 +1,10 @@
 pub mod Decided
 pub mod OneText
 pub mod Unions
-pub mod WorkedTexts
 pub mod Edges
+pub mod Tables
+pub mod ElementKinds
+pub mod Filtration
+pub mod FiniteStructure
+pub mod FiniteModels
+pub mod WorkedFamily

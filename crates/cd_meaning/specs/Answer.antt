@@ -2,7 +2,6 @@
 use Rattle.std.specs.Prelude.{◌≡◌, ℕ, ◌<◌, Bool, ◌↔◌, IsTrue, List, length}
 use Rattle.cd_meaning.specs.declared.document.Document.{Document}
 use Rattle.cd_meaning.specs.Entailment.{Entails}
-use Rattle.cd_meaning.specs.Reading.{Reads}
 use Rattle.cd_meaning.specs.Text.{text}
 
 -- the test says of every two classes of the document whether it entails that the first is below the second
@@ -12,11 +11,6 @@ Decides document below = (a b : ℕ) → a < length document.classes → b < len
 -- the bytes are the text of what the document entails
 abbrev pub IsAnswer : Document → List ℕ → Type 0
 IsAnswer document bytes = (below : ℕ → ℕ → Bool) × Decides document below × (bytes ≡ text document.classes below)
-
--- read back, the bytes say exactly what the document entails
-abbrev pub SaysEntailed : Document → List ℕ → Type 0
-SaysEntailed document bytes = (a b : ℕ) → a < length document.classes → b < length document.classes
-    → Reads document.classes bytes a b ↔ Entails document.axioms a b
 
 -- a document has no two answers
 abbrev pub HasOneAnswer : Type 0

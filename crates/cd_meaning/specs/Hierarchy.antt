@@ -1,6 +1,6 @@
 -- The hierarchy of named classes that a relation gives: its groups of equivalent classes, and the direct superclasses of each.
 -- Classes go by number, 0 being owl:Thing and 1 owl:Nothing. The relation is a test, `below`, that is reflexive and transitive.
-use Rattle.std.specs.Prelude.{ℕ, Bool, not, ◌&&◌, ◌==◌, nat_lt, if◌then◌else◌, List, [], ◌∷◌, length, filter, count_by, sum_by, slice_index_or}
+use Rattle.std.specs.Prelude.{ℕ, Bool, not, ◌&&◌, ◌==◌, nat_lt, if◌then◌else◌, List, [], ◌∷◌, length, filter, slice_index_or}
 use Rattle.std.specs.List.{list_any, range_with_len}
 use Rattle.std.specs.Ordering.{nat_cmp, is_lt}
 use Rattle.std.specs.Cmp.Lexicographic.{slice_cmp}
@@ -77,20 +77,3 @@ module _ (names : List (List ℕ)) (below : ℕ → ℕ → Bool) where
   -- the groups that have neither owl:Thing nor owl:Nothing
   abbrev pub proper : List ℕ
   proper = filter (λ r. not (list_any is_reserved (members r))) representatives
-
-  -- ---- the summary
-
-  -- the classes, with owl:Thing and owl:Nothing
-  abbrev pub name_count : ℕ
-  name_count = length names
-
-  abbrev pub group_count : ℕ
-  group_count = length representatives
-
-  -- the classes other than owl:Nothing in its group
-  abbrev pub unsatisfiable_count : ℕ
-  unsatisfiable_count = count_by (λ c. is_equivalent below c 1 && not (c == 1)) (classes_in_order names)
-
-  -- the pairs of a group and a direct superclass that are printed
-  abbrev pub link_count : ℕ
-  link_count = sum_by (λ r. length (parents r)) proper

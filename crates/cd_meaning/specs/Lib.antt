@@ -1,3 +1,4 @@
+pub mod AnyDomain
 pub mod Answer
 pub mod Entailment
 pub mod Hierarchy
@@ -12,3 +13,5 @@ pub mod Numbered
 pub mod Reading
 pub mod Text
 pub mod Truth
+pub mod Worked
+pub mod WorkedTexts

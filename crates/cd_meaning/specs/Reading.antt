@@ -13,13 +13,13 @@ Shows names bytes a b =
     ⊎ ((group : List ℕ) × HasLine bytes (equivalent_line names group) × Contains group a × Contains group b)
 
 -- b is so many such glances from a
-abbrev pub Leads : List (List ℕ) → List ℕ → ℕ → ℕ → ℕ → Type 0
-Leads names bytes a b zero = a ≡ b
-Leads names bytes a b (suc n) = (c : ℕ) × (c < length names) × Shows names bytes a c × Leads names bytes c b n
+abbrev pub ShowsInSteps : List (List ℕ) → List ℕ → ℕ → ℕ → ℕ → Type 0
+ShowsInSteps names bytes a b zero = a ≡ b
+ShowsInSteps names bytes a b (suc n) = (c : ℕ) × (c < length names) × Shows names bytes a c × ShowsInSteps names bytes c b n
 
 -- the least reflexive and transitive relation that has all that the text shows
 abbrev pub Reads : List (List ℕ) → List ℕ → ℕ → ℕ → Type 0
-Reads names bytes a b = (n : ℕ) × Leads names bytes a b n
+Reads names bytes a b = (n : ℕ) × ShowsInSteps names bytes a b n
 
 -- read back, the text says exactly which classes are below which
 abbrev pub SaysRelation : List (List ℕ) → (ℕ → ℕ → Bool) → List ℕ → Type 0

@@ -21,8 +21,8 @@ abbrev pub HasSameMembers : Interpretation → Expr → Expr → Type 0
 HasSameMembers i c d = IsBelow i c d × IsBelow i d c
 
 -- no element is in both
-abbrev pub IsApart : Interpretation → Expr → Expr → Type 0
-IsApart i c d = (x : ℕ) → x < i.size → IsTrue (member i c x) → IsTrue (member i d x) → ⊥
+abbrev pub AreDisjoint : Interpretation → Expr → Expr → Type 0
+AreDisjoint i c d = (x : ℕ) → x < i.size → IsTrue (member i c x) → IsTrue (member i d x) → ⊥
 
 -- P holds of each edge of r
 abbrev pub EachEdge : Interpretation → ℕ → (Edge → Type 0) → Type 0
@@ -42,9 +42,9 @@ IsRange i r c = EachEdge i r (λ edge. IsTrue (member i c edge.target))
 abbrev pub EveryTwo : {X : Type 0} → (X → X → Type 0) → List X → Type 0
 EveryTwo R l = All (λ c. All (λ d. R c d) l) l
 
--- they have no common element, unless they are one tree
+-- they have no common element, unless they are one tree: operands are a set, so one that is repeated counts once
 abbrev pub IsDistinctlyApart : Interpretation → Expr → Expr → Type 0
-IsDistinctlyApart i c d = c ≢ d → IsApart i c d
+IsDistinctlyApart i c d = c ≢ d → AreDisjoint i c d
 
 abbrev pub HasSameEdges : Interpretation → ℕ → ℕ → Type 0
 HasSameEdges i r s = IsSubRole i r s × IsSubRole i s r

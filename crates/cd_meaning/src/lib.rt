@@ -15,13 +15,15 @@ mod laws;
 mod membership;
 mod trees;
 mod truth;
+mod worked;
 
 pub use document::Document;
 pub use expression::{Axiom, Expr};
 pub use interpretation::{Edge, Interpretation, Member};
-pub use laws::has_one_answer;
+pub use laws::{finite_is_enough, finite_is_some, has_one_answer};
 pub use membership::is_in;
 pub use truth::holds;
+pub use worked::{worked_members, worked_texts, worked_truths};
 
 #[cfg(test)]
 mod tests;

@@ -1,7 +1,7 @@
 //! Whether an axiom holds in an interpretation.
 ghost use Rattle.std.specs.Prelude.{◌≡◌, ◌<◌, ◌↔◌, IsTrue, All};
 ghost use Rattle.cd_meaning.specs.Membership.{member};
-ghost use Rattle.cd_meaning.specs.Truth.{has_edge, IsDomain, IsRange, IsDisjointUnion, IsBelow, HasSameMembers, IsApart, IsDistinctlyApart, IsSubRole, HasSameEdges, EveryTwo, Holds};
+ghost use Rattle.cd_meaning.specs.Truth.{has_edge, IsDomain, IsRange, IsDisjointUnion, IsBelow, HasSameMembers, AreDisjoint, IsDistinctlyApart, IsSubRole, HasSameEdges, EveryTwo, Holds};
 
 use crate::expression::{Axiom, Expr};
 use crate::interpretation::{Edge, Interpretation};
@@ -20,7 +20,7 @@ pub fn holds(i: &Interpretation, stated: &Axiom) -> bool
     match stated {
         Axiom::SubClass(lower, upper) => is_below(i, lower, upper),
         Axiom::SameClasses(operands) => have_same_members(i, operands.items()),
-        Axiom::Disjoint(operands) => are_disjoint(i, operands.items()),
+        Axiom::Disjoint(operands) => are_pairwise_disjoint(i, operands.items()),
         Axiom::DisjointUnion(class, operands) => is_disjoint_union(i, *class, operands.items()),
         Axiom::SubRole(lower, upper) => is_sub_role(i, *lower, *upper),
         Axiom::SameRoles(roles) => have_same_edges(i, roles.items()),
@@ -73,7 +73,7 @@ fn has_same_members(i: &Interpretation, first: &Expr, second: &Expr) -> bool
 }
 
 /// Quadratic in the operands, with `is_distinctly_apart` for every two.
-fn are_disjoint(i: &Interpretation, operands: &[Expr]) -> bool
+fn are_pairwise_disjoint(i: &Interpretation, operands: &[Expr]) -> bool
     ensures { IsTrue result ↔ EveryTwo (IsDistinctlyApart i.now) operands.now }
 {
     for operand in operands {
@@ -96,16 +96,16 @@ fn is_apart_from_each(i: &Interpretation, first: &Expr, operands: &[Expr]) -> bo
     true
 }
 
-/// Operands that are one tree count as one, as in a set. Linear in the smaller tree, and where they differ the time of `is_apart`.
+/// Operands that are one tree count as one, as in a set. Linear in the smaller tree, and where they differ the time of `are_disjoint`.
 fn is_distinctly_apart(i: &Interpretation, first: &Expr, second: &Expr) -> bool
     ensures { IsTrue result ↔ IsDistinctlyApart i.now first.now second.now }
 {
-    same_tree(first, second) || is_apart(i, first, second)
+    same_tree(first, second) || are_disjoint(i, first, second)
 }
 
 /// Calls `is_in` at most twice for each element.
-fn is_apart(i: &Interpretation, first: &Expr, second: &Expr) -> bool
-    ensures { IsTrue result ↔ IsApart i.now first.now second.now }
+fn are_disjoint(i: &Interpretation, first: &Expr, second: &Expr) -> bool
+    ensures { IsTrue result ↔ AreDisjoint i.now first.now second.now }
 {
     for element in 0..i.size {
         if is_in(i, element, first) && is_in(i, element, second) {
@@ -115,11 +115,11 @@ fn is_apart(i: &Interpretation, first: &Expr, second: &Expr) -> bool
     true
 }
 
-/// The time of `is_union` and of `are_disjoint`.
+/// The time of `is_union` and of `are_pairwise_disjoint`.
 fn is_disjoint_union(i: &Interpretation, class: u32, operands: &[Expr]) -> bool
     ensures { IsTrue result ↔ IsDisjointUnion i.now class operands.now }
 {
-    is_union(i, class, operands) && are_disjoint(i, operands)
+    is_union(i, class, operands) && are_pairwise_disjoint(i, operands)
 }
 
 /// Calls `is_in` for each operand and each element, and goes over the classes' pairs for each element.

@@ -18,7 +18,7 @@ use Rattle.cd_meaning.specs.Hierarchy.{is_strictly_below, has_between, represent
 use Rattle.cd_taxonomy.specs.declared.parents.Candidate.{Candidate}
 use Rattle.cd_taxonomy.specs.Covered.{is_candidate, with_count, class_of, lists, covers, uncovered}
 use Rattle.cd_taxonomy.specs.Groups.{group_number}
-use Rattle.cd_taxonomy.specs.Relation.{is_below, relation, IsWithin, IsSubsumption}
+use Rattle.cd_taxonomy.specs.Relation.{is_superclass, relation, IsWithin, IsSubsumption}
 use Rattle.cd_taxonomy.specs.Steps.{superclasses, superclass_counts, representative_list, ArePlaces}
 use Rattle.cd_taxonomy.proofs.SuperclassCounts.{count, count_less, count_same, counted, length-counts as length_of_counts}
 use Rattle.cd_taxonomy.proofs.SuperclassLists.{superclasses_within, superclasses_increasing, contains_from_test}
@@ -32,15 +32,15 @@ use Rattle.cd_taxonomy.proofs.ParentNumbers.{numbers_in_order}
 -- ---- the classes that an answer lists
 
 -- an answer lists all that are above its class, unless it is unsatisfiable
-lists_below : (answer : Answer) (r b : ℕ) → is_below answer r ≡ false → lists answer b ≡ is_below answer b
+lists_below : (answer : Answer) (r b : ℕ) → is_superclass answer r ≡ false → lists answer b ≡ is_superclass answer b
 lists_below Unsatisfiable r b apart = absurd (false≢true (sym apart))
 lists_below (Of atoms) r b apart = refl
 
-below_from_lists : (answer : Answer) (b : ℕ) → lists answer b ≡ true → is_below answer b ≡ true
+below_from_lists : (answer : Answer) (b : ℕ) → lists answer b ≡ true → is_superclass answer b ≡ true
 below_from_lists Unsatisfiable b h = refl
 below_from_lists (Of atoms) b h = h
 
-lists_from_below : (answer : Answer) (b c : ℕ) → lists answer b ≡ true → is_below answer c ≡ true → lists answer c ≡ true
+lists_from_below : (answer : Answer) (b c : ℕ) → lists answer b ≡ true → is_superclass answer c ≡ true → lists answer c ≡ true
 lists_from_below Unsatisfiable b c h k = absurd (false≢true h)
 lists_from_below (Of atoms) b c h k = k
 

@@ -1,4 +1,5 @@
 pub mod Candidates
+pub mod Connected
 pub mod DirectSuperclasses
 pub mod GroupNumbers
 pub mod LinesOfGroups

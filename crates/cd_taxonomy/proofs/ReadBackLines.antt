@@ -118,14 +118,14 @@ flat_map_twice g f [] = refl
 flat_map_twice {Z = Z} g f (x ∷ xs) = flat_map-append g (f x) (flat_map f xs) ∙ ap (λ (zs : List Z). flat_map g (f x) ++ zs) (flat_map_twice g f xs)
 
 -- a part of a flat_map is a part of what one element gives
-contains_flat_map : {X Y : Type 0} (f : X → List Y) (xs : List X) (y : Y) → Contains (flat_map f xs) y → (x : X) × Contains xs x × Contains (f x) y
+pub contains_flat_map : {X Y : Type 0} (f : X → List Y) (xs : List X) (y : Y) → Contains (flat_map f xs) y → (x : X) × Contains xs x × Contains (f x) y
 contains_flat_map f [] y (k, inside, at) = absurd (omega arith)
 contains_flat_map f (x ∷ xs) y h = elim (Contains-append_cases (f x) (flat_map f xs) y h) [
   | inl here ↦ (x, (0, omega arith, refl), here)
   | inr later ↦ let found = contains_flat_map f xs y later in (found.0, (suc (found.1.0), omega (arith, found.1.1), found.1.2), found.2)
 ]
 
-flat_map_contains : {X Y : Type 0} (f : X → List Y) (xs : List X) (x : X) (y : Y) → Contains xs x → Contains (f x) y → Contains (flat_map f xs) y
+pub flat_map_contains : {X Y : Type 0} (f : X → List Y) (xs : List X) (x : X) (y : Y) → Contains xs x → Contains (f x) y → Contains (flat_map f xs) y
 flat_map_contains f [] x y (k, inside, at) h = absurd (omega arith)
 flat_map_contains {Y = Y} f (z ∷ xs) x y (zero, inside, at) h = Contains-append_left (f z) (flat_map f xs) y (subst (λ (w : List Y). Contains w y) (sym (ap f at)) h)
 flat_map_contains f (z ∷ xs) x y (suc k, inside, at) h = Contains-append_right (f z) (flat_map f xs) y (flat_map_contains f xs x y (k, omega arith, at) h)

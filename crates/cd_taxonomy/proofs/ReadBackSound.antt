@@ -6,7 +6,7 @@ use Rattle.std.proofs.lemmas.Bool.{and_parts}
 use Rattle.std.proofs.lemmas.List.Elements.{All-contains, All-weaker, All-contains_itself}
 use Rattle.cd_meaning.specs.Hierarchy.{classes_in_order, is_equivalent, is_strictly_below, is_reserved, group_of, representatives, members, has_between, is_parent, parents, proper}
 use Rattle.cd_meaning.specs.Text.{equivalent_line, subclass_line, text}
-use Rattle.cd_meaning.specs.Reading.{HasLine, Shows, Leads}
+use Rattle.cd_meaning.specs.Reading.{HasLine, Shows, ShowsInSteps}
 use Rattle.cd_taxonomy.specs.Relation.{IsSubsumption}
 use Rattle.cd_taxonomy.specs.ReadBack.{AreNames}
 use Rattle.cd_taxonomy.proofs.NameOrder.{classes_within}
@@ -35,10 +35,10 @@ module _ (names : List (List ℕ)) (below : ℕ → ℕ → Bool) (known : AreNa
   members_within r at = All-weaker (Contains (members names below r)) (λ c. c < length names) (λ c h. (in_members r c at h).0)
       (members names below r) (All-contains_itself (members names below r))
 
-  proper_represents : (r : ℕ) → Contains (proper names below) r → Contains (representatives names below) r
+  pub proper_represents : (r : ℕ) → Contains (proper names below) r → Contains (representatives names below) r
   proper_represents r at = Contains-from_filter (λ t. not (list_any is_reserved (members names below t))) (representatives names below) r at
 
-  in_parents : (r d : ℕ) → Contains (parents names below r) d → (d < length names) × (below r d ≡ true)
+  pub in_parents : (r d : ℕ) → Contains (parents names below r) d → (d < length names) × (below r d ≡ true)
   in_parents r d at =
       let strictly = (and_parts (is_strictly_below below r d) (not (has_between names below r d)) (passes_from_filter (is_parent names below r) (representatives names below) d at)).0 in (
         (in_representatives names below d (Contains-from_filter (is_parent names below r) (representatives names below) d at)).0,
@@ -86,7 +86,7 @@ module _ (names : List (List ℕ)) (below : ℕ → ℕ → Bool) (known : AreNa
   shows_so a c a_in c_in (inr (inr (inl line))) = subclass_so a c a_in c_in line
   shows_so a c a_in c_in (inr (inr (inr found))) = group_so (found.0) a c a_in c_in found.1 found.2 found.3
 
-  pub leads_so : (n a b : ℕ) → a < length names → b < length names → Leads names (text names below) a b n → below a b ≡ true
+  pub leads_so : (n a b : ℕ) → a < length names → b < length names → ShowsInSteps names (text names below) a b n → below a b ≡ true
   leads_so zero a b a_in b_in same = subst (λ x. below a x ≡ true) same (s.reflexive a a_in)
   leads_so (suc n) a b a_in b_in (c, c_in, shows, leads) =
       s.transitive a c b a_in c_in b_in (shows_so a c a_in c_in shows) (leads_so n c b c_in b_in leads)

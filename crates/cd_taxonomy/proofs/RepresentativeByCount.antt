@@ -9,7 +9,7 @@ use Rattle.cd_base.specs.declared.answer.Answer.{Answer}
 use Rattle.cd_base.specs.declared.answer.Answer.TheVariants.{Unsatisfiable, Of}
 use Rattle.cd_meaning.specs.declared.document.Document.{Document}
 use Rattle.cd_meaning.specs.Hierarchy.{first_or, is_equivalent, group_of, representative, classes_in_order}
-use Rattle.cd_taxonomy.specs.Relation.{relation, is_below, IsSubsumption}
+use Rattle.cd_taxonomy.specs.Relation.{relation, is_superclass, IsSubsumption}
 use Rattle.cd_taxonomy.specs.Steps.{superclass_counts, representative_list, IsOrdering, ArePlaces}
 use Rattle.cd_taxonomy.proofs.SuperclassCounts.{count, count_same, below_from_count, counted}
 use Rattle.cd_taxonomy.proofs.SuperclassLists.{contains_from_test, test_from_contains}
@@ -81,10 +81,10 @@ module _ (names : List (List ℕ)) (above : List Answer) (counts : List ℕ) (tw
 
   module _ (atoms : List ℕ) (is : slice_index_or above c Unsatisfiable ≡ Of atoms) where
     below_listed : (d : ℕ) → Contains atoms d → relation above c d ≡ true
-    below_listed d h = ap (λ (answer : Answer). is_below answer d) is ∙ test_from_contains atoms d h
+    below_listed d h = ap (λ (answer : Answer). is_superclass answer d) is ∙ test_from_contains atoms d h
 
     listed_below : (d : ℕ) → relation above c d ≡ true → Contains atoms d
-    listed_below d h = contains_from_test atoms d (ap (λ (answer : Answer). is_below answer d) (sym is) ∙ h)
+    listed_below d h = contains_from_test atoms d (ap (λ (answer : Answer). is_superclass answer d) (sym is) ∙ h)
 
   pub representative_by_place : (places : List ℕ) → ArePlaces (length names) (classes_in_order names) places
       → slice_index counts c ≢ slice_index counts 1 → slice_index counts c ≢ slice_index counts 0

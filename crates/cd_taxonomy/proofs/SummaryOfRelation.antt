@@ -9,13 +9,13 @@ use Rattle.std.proofs.lemmas.List.Folds.{fold-map}
 use Rattle.std.proofs.lemmas.List.Kept.{AllPairs-filter}
 use Rattle.std.proofs.lemmas.List.Sums.{sum_by-cons, length-filter, count_by-le-length}
 use Rattle.cd_meaning.specs.declared.document.Document.{Document}
-use Rattle.cd_meaning.specs.Hierarchy.{classes_in_order, is_equivalent, group_of, representative, representatives, members, is_parent, parents, proper, first_or, name_count, group_count, unsatisfiable_count, link_count}
+use Rattle.cd_meaning.specs.Hierarchy.{classes_in_order, is_equivalent, group_of, representative, representatives, members, is_parent, parents, proper, first_or}
 use Rattle.cd_taxonomy.specs.declared.groups.Group.{Group}
 use Rattle.cd_taxonomy.specs.declared.groups.Summary.{Summary}
 use Rattle.cd_taxonomy.specs.Groups.{group_number, group_at, groups}
 use Rattle.cd_taxonomy.specs.Lines.{is_proper}
 use Rattle.cd_taxonomy.specs.Relation.{IsSubsumption}
-use Rattle.cd_taxonomy.specs.Summary.{IsTaxonomyOf, AreFew, summary_of, member_total, unsatisfiable_in, unsatisfiable_total, link_total}
+use Rattle.cd_taxonomy.specs.Summary.{IsTaxonomyOf, AreFew, name_count, group_count, unsatisfiable_count, link_count, summary_of, member_total, unsatisfiable_in, unsatisfiable_total, link_total}
 use Rattle.cd_taxonomy.proofs.Lists.{same_tests, filter_twice, filter-map, Contains-nil, Contains-cases}
 use Rattle.cd_taxonomy.proofs.NameOrder.{length-classes_in_order, classes_within, classes_ordering}
 use Rattle.cd_taxonomy.proofs.OneRepresentative.{in_representatives, representative_in, group_has, representative_same}

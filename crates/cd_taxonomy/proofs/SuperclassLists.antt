@@ -10,7 +10,7 @@ use Rattle.std.proofs.lemmas.List.Kept.{IsStrictlyIncreasing-filter}
 use Rattle.std.proofs.lemmas.List.Sums.{length-filter, count_by-le-length}
 use Rattle.cd_base.specs.declared.answer.Answer.{Answer}
 use Rattle.cd_base.specs.declared.answer.Answer.TheVariants.{Unsatisfiable, Of}
-use Rattle.cd_taxonomy.specs.Relation.{is_below}
+use Rattle.cd_taxonomy.specs.Relation.{is_superclass}
 use Rattle.cd_taxonomy.specs.Steps.{superclasses}
 use Rattle.cd_taxonomy.proofs.Lists.{keeps_all, Contains-filter, passes_from_filter}
 use Rattle.cd_taxonomy.proofs.Ranges.{range_contains, range_increasing, range_within}
@@ -19,14 +19,14 @@ use Rattle.cd_taxonomy.proofs.RisingLists.{same_from_increasing}
 -- ---- the superclasses of any answer
 
 pub superclasses_within : (n : ℕ) (answer : Answer) → All (λ c. c < n) (superclasses n answer)
-superclasses_within n answer = All-filter (is_below answer) (λ c. c < n) (range_with_len 0 n) (range_within n)
+superclasses_within n answer = All-filter (is_superclass answer) (λ c. c < n) (range_with_len 0 n) (range_within n)
 
 pub superclasses_increasing : (n : ℕ) (answer : Answer) → IsStrictlyIncreasing (superclasses n answer)
-superclasses_increasing n answer = IsStrictlyIncreasing-filter (is_below answer) (range_with_len 0 n) (range_increasing n)
+superclasses_increasing n answer = IsStrictlyIncreasing-filter (is_superclass answer) (range_with_len 0 n) (range_increasing n)
 
 pub superclasses_few : (n : ℕ) (answer : Answer) → length (superclasses n answer) ≤ n
 superclasses_few n answer =
-    omega (arith, length-filter (is_below answer) (range_with_len 0 n), count_by-le-length (is_below answer) (range_with_len 0 n), length-range_with_len 0 n)
+    omega (arith, length-filter (is_superclass answer) (range_with_len 0 n), count_by-le-length (is_superclass answer) (range_with_len 0 n), length-range_with_len 0 n)
 
 -- an unsatisfiable class is below all
 pub superclasses_of_unsatisfiable : (n : ℕ) → superclasses n Unsatisfiable ≡ range_with_len 0 n
@@ -50,5 +50,5 @@ superclasses_from_increasing n atoms found within rises same = same_from_increas
     (λ b h.
     let listed = (same b).0 h in
     let b_in : b < n = All-contains (λ c. c < n) atoms b within listed in
-    Contains-filter (is_below (Of atoms)) (range_with_len 0 n) b (range_contains n b b_in) (test_from_contains atoms b listed))
-    (λ b h. (same b).1 (contains_from_test atoms b (passes_from_filter (is_below (Of atoms)) (range_with_len 0 n) b h)))
+    Contains-filter (is_superclass (Of atoms)) (range_with_len 0 n) b (range_contains n b b_in) (test_from_contains atoms b listed))
+    (λ b h. (same b).1 (contains_from_test atoms b (passes_from_filter (is_superclass (Of atoms)) (range_with_len 0 n) b h)))

@@ -4,14 +4,14 @@ use Rattle.std.specs.List.{list_any}
 use Rattle.cd_base.specs.declared.answer.Answer.{Answer}
 use Rattle.cd_base.specs.declared.answer.Answer.TheVariants.{Unsatisfiable, Of}
 
--- an unsatisfiable class is below every class, another one below the classes of its answer
-abbrev pub is_below : Answer → ℕ → Bool
-is_below Unsatisfiable b = true
-is_below (Of atoms) b = list_any (λ (atom : ℕ). atom == b) atoms
+-- b is a superclass: every class is one of an unsatisfiable class, and another one has those of its answer
+abbrev pub is_superclass : Answer → ℕ → Bool
+is_superclass Unsatisfiable b = true
+is_superclass (Of atoms) b = list_any (λ (atom : ℕ). atom == b) atoms
 
 -- whether a is below b
 abbrev pub relation : List Answer → ℕ → ℕ → Bool
-relation above a b = is_below (slice_index_or above a Unsatisfiable) b
+relation above a b = is_superclass (slice_index_or above a Unsatisfiable) b
 
 -- every atom of the answer is below n
 abbrev pub IsWithin : ℕ → Answer → Type 0

@@ -3,11 +3,11 @@ use Rattle.std.specs.Prelude.{◌≡◌, ◌≢◌, ℕ, ◌<◌, List, length, 
 use Rattle.std.specs.List.{range_with_len}
 use Rattle.cd_base.specs.declared.answer.Answer.{Answer}
 use Rattle.cd_meaning.specs.Hierarchy.{representative}
-use Rattle.cd_taxonomy.specs.Relation.{is_below, relation}
+use Rattle.cd_taxonomy.specs.Relation.{is_superclass, relation}
 
 -- the classes below n that are above a class with this answer, ascending
 abbrev pub superclasses : ℕ → Answer → List ℕ
-superclasses n answer = filter (is_below answer) (range_with_len 0 n)
+superclasses n answer = filter (is_superclass answer) (range_with_len 0 n)
 
 -- how many classes are above each class
 abbrev pub superclass_counts : List Answer → List ℕ

@@ -1,7 +1,6 @@
-use Rattle.std.proofs.Common.{take}
-use Rattle.std.specs.List.{All}
-use Rattle.cd_meaning.specs.Truth.{IsDistinctlyApart}
+use Rattle.std.proofs.Common.{ℕ, ◌<◌, IsTrue}
+use Rattle.cd_meaning.specs.Membership.{member}
 use Rattle.cd_meaning.proofs.truth.are_disjoint.Given as goal
 
-abbrev pub invariant-loop-operand : goal.invariant-loop-operand
-invariant-loop-operand l = All (λ x. All (IsDistinctlyApart l.i x) l.operands) (take l.operand-index l.operands)
+abbrev pub invariant-loop-element : goal.invariant-loop-element
+invariant-loop-element l = (x : ℕ) → x < l.element → IsTrue (member l.i l.first x) → IsTrue (member l.i l.second x) → ⊥

@@ -13,7 +13,7 @@ returns-in-SameClasses c =
 
 pub returns-in-Disjoint : goal.returns-in-Disjoint
 returns-in-Disjoint c =
-    answers_at (Holds c.args.i.now) c.are_disjoint.result (c.in-Disjoint.is ∙ ap Disjoint (sym c.items-in-Disjoint.ensures)) c.are_disjoint.ensures
+    answers_at (Holds c.args.i.now) c.are_pairwise_disjoint.result (c.in-Disjoint.is ∙ ap Disjoint (sym c.items-in-Disjoint.ensures)) c.are_pairwise_disjoint.ensures
 
 pub returns-in-DisjointUnion : goal.returns-in-DisjointUnion
 returns-in-DisjointUnion c =
