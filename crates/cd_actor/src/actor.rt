@@ -69,6 +69,12 @@ pub trait Actor {
     fn facts(&self) -> u64
         ensures { result ≡ meaning.facts self.now };
 
+    /// Cells of one family have the same number of places.
+    ghost same_places: { (a b : Self) → meaning.family a ≡ meaning.family b → meaning.places a ≡ meaning.places b };
+
+    /// Cells of one family have the same lawful messages.
+    ghost same_lawful: { (a b : Self) → meaning.family a ≡ meaning.family b → (p : ℕ) (m : Self.Msg) → meaning.lawful a p m → meaning.lawful b p m };
+
     /// What is lawful for the cell of a place is lawful only at a place of the family.
     ghost lawful_below: { (a : Self) (p : ℕ) (m : Self.Msg) → meaning.lawful a p m → p < meaning.places a };
 

@@ -1,4 +1,4 @@
--- The chosen elements of one context (steps b and c).
+-- The chosen elements of one context: each clause has one of them, and each is the greatest, and the only chosen one, of some clause.
 use Rattle.std.proofs.Common.{◌≡◌, ℕ, ◌⊎◌, true, false, List, [], ◌∷◌, refl, sym, ◌∙◌, ap, subst, inl, inr}
 use Rattle.std.proofs.lemmas.Bool.{cond_both, cases_Bool, both_ways, true≢false, false≢true, or_cases, or_parts, or_left, or_right}
 use Rattle.cd_base.specs.Lists.{Member}
@@ -104,7 +104,7 @@ module _ (n : Normal) (least : ℕ) where
       ])
       m
 
-  -- step c
+  -- each clause that is not empty has an element that is chosen
   choose_hits : (acc : List Elem) (cs : List (List Elem)) (c : List Elem) → Member c cs → (c ≡ [] → ⊥) → (e : Elem) × Member e c × Member e (choose n least acc cs)
   choose_hits acc [] c m h = absurd m
   choose_hits acc (d ∷ cs) c (inr m) h =
@@ -116,7 +116,7 @@ module _ (n : Normal) (least : ℕ) where
       (λ t. let r = has_one-true acc d t in (r.0, subst (Member r.0) (sym q) r.1, choose_keeps acc cs r.0 r.2))
       (λ t. (greatest n least c, greatest_member n least c h, choose_keeps (greatest n least d ∷ acc) cs (greatest n least c) (inl (ap (greatest n least) q))))
 
-  -- step b
+  -- an element that comes to be chosen is the greatest of some clause, and the only chosen one of it
   choose_made : (acc : List Elem) (cs : List (List Elem)) → Sorted cs → (e : Elem) → Member e (choose n least acc cs)
       → Member e acc ⊎ ((c : List Elem) × Member c cs × (e ≡ greatest n least c) × ((f : Elem) → Member f c → Member f (choose n least acc cs) → f ≡ e))
   choose_made acc [] s e m = inl m
@@ -181,7 +181,7 @@ hits n least live h c m = choose_hits n least [] (sort n least live) c (member_s
 pub hits_redundant : (n : Normal) (least : ℕ) (live : List (List Elem)) → has_empty live ≡ false → (d : List Elem) → Redundant live d → (e : Elem) × Member e d × Member e (chosen n least live)
 hits_redundant n least live h d r = let e = hits n least live h r.0 r.1 in (e.0, r.2 e.0 e.1, e.2)
 
--- step f
+-- a named atom that is least and chosen is a live clause of its own
 pub least_single : (n : Normal) (b : ℕ) (live : List (List Elem)) → has_empty live ≡ false → is_named n b ≡ true → Member (Plain b) (chosen n b live) → IsSingle live b
 unfolding chosen
 least_single n b live h named m = elim (choose_made n b [] (sort n b live) (sorted_sort n b live (has_empty-false live h)) (Plain b) m) [

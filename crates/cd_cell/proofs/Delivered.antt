@@ -122,8 +122,6 @@ pub keeps_same : (u : CellState) (new : List (List ℕ × State)) (failed : Bool
 keeps_same u new failed e = record {
   place = refl;
   family = refl;
-  places = refl;
-  lawful = λ p m. (λ h. h, λ h. h);
   has = λ m h. ap (λ (l : List (List ℕ × State)). has_note l m) e ∙ h;
   contexts = omega (arith, ap contexts_of e);
   facts = omega (arith, ap facts_of e);
@@ -133,8 +131,6 @@ pub keeps_put : (u : CellState) (key : List ℕ) (new : List (List ℕ × State)
 keeps_put u key new failed p = record {
   place = refl;
   family = refl;
-  places = refl;
-  lawful = λ q m. (λ h. h, λ h. h);
   has = has_kept u.normal u.contexts key new p;
   contexts = contexts_kept u.normal u.contexts key new p;
   facts = facts_kept u.normal u.contexts key new p;

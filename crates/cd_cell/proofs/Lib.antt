@@ -1,4 +1,5 @@
 pub mod Answered
+pub mod Ascending
 pub mod CellAnswers
 pub mod Choice
 pub mod Complete
@@ -19,3 +20,5 @@ pub mod Saturating
 pub mod Sent
 pub mod Taken
 pub mod Told
+pub mod TrueAnswers
+pub mod Wholes

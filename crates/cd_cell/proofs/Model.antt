@@ -1,4 +1,5 @@
--- The canonical interpretation is a model (steps d and e), and the whole of completeness.
+-- The canonical interpretation is a model: what is chosen in saturated contexts obeys each rule, and so its elements and edges each axiom.
+-- And the whole of completeness.
 use Rattle.std.proofs.Common.{◌≡◌, ℕ, Bool, false, List, [], ◌∷◌, ◌++◌, map, refl, subst, inl, inr, arith}
 use Rattle.cd_base.specs.Lists.{Member, SameSet}
 use Rattle.cd_base.specs.declared.normal.Normal.{Normal}
@@ -27,7 +28,7 @@ module _ (n : Normal) (keys : List (List ℕ)) (live : List ℕ → List (List E
   abbrev Rule : List ℕ → List Elem → Type 0
   Rule h d = Concludes n h (λ c. Member c (live h)) (λ r k a. Member k keys × ((c : List Elem) × Member c (live k) × Eligible n (Plain a) c)) (λ r k. Member k keys × Member [] (live k)) d
 
-  -- step c, for conclusions
+  -- each conclusion of a rule has an element that is chosen
   rule_hits : (h : List ℕ) → Member h keys → has_empty (live h) ≡ false → (d : List Elem) → Rule h d → (e : Elem) × Member e d × Member e (Ch h)
   rule_hits h m o d r = hits_redundant n least (live h) o d (sat.closed h m d r)
 

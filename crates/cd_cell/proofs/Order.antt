@@ -1,4 +1,4 @@
--- The dictionary order, the total order of elements and what it extends (step a).
+-- The total order by which elements are chosen: it tells elements apart, and extends the order of the calculus.
 use Rattle.std.proofs.Common.{◌≡◌, ℕ, ◌⊎◌, Bool, true, false, cond, List, [], ◌∷◌, eqb, refl, sym, ◌∙◌, ap, subst, inl, inr, eqb-true}
 use Rattle.std.proofs.lemmas.Bool.{cond_both, cases_Bool, false≢true, eqb-false}
 use Rattle.cd_base.specs.Lists.{Member}
@@ -34,7 +34,7 @@ place_apart n least (Plain a) (Exist r k) h = absurd (atom_exist_apart (is_named
 place_apart n least (Exist r k) (Plain b) h = absurd (atom_exist_apart (is_named n b) (eqb b least) b r k (sym h))
 place_apart n least (Exist r k) (Exist s l) h = cc
 
--- step a: the total order extends the order of elements
+-- an element that is at most another in the total order is at most it in the order of the calculus
 
 atoms_extend : (x y x' y' : Bool) (a b : ℕ)
     → is_at_most (cond x (cond y (0 ∷ []) (0 ∷ a ∷ [])) (1 ∷ a ∷ [])) (cond x' (cond y' (0 ∷ []) (0 ∷ b ∷ [])) (1 ∷ b ∷ [])) ≡ true

@@ -9,3 +9,4 @@ pub mod Saturated
 pub mod Sending
 pub mod Subsumers
 pub mod Telling
+pub mod TrueAnswers

@@ -1,12 +1,13 @@
 //! Cells.
-ghost use Rattle.std.specs.Prelude.{◌≡◌, ◌<◌, ◌++◌, ℕ, [], true, IfOk, OnOk, false};
+ghost use Rattle.std.specs.Prelude.{◌≡◌, ◌<◌, ◌++◌, ◌↔◌, ℕ, [], true, IfOk, OnOk, false, IsTrue};
 ghost use Rattle.cd_base.specs.Keys.{is_named};
 ghost use Rattle.cd_base.specs.Lists.{Member, IsApart};
 ghost use Rattle.cd_actor.specs.Meaning.{Keeps, IsSame, Delivers};
 ghost use Rattle.cd_actor.specs.Sends.{sent, Sends};
-ghost use Rattle.cd_cell.specs.Cells.{meaning};
-ghost use Rattle.cd_cell.specs.Lawful.{owed_lawful};
+ghost use Rattle.cd_cell.specs.Cells.{meaning, IsWhole, IsSound};
+ghost use Rattle.cd_cell.specs.Lawful.{same_places, same_lawful, owed_lawful};
 ghost use Rattle.cd_cell.specs.Subsumers.{HasContext, IsSubsumers};
+ghost use Rattle.cd_cell.specs.TrueAnswers.{IsExactIn};
 ghost use Rattle.cd_context.specs.declared.facts.Note.{Note};
 
 use crate::answers::answer_of;
@@ -55,13 +56,26 @@ impl<'a> Cell<'a> {
         }
     }
 
+    /// Whether none of its deliveries has wanted for memory, so that it may take messages. Constant time.
+    ///
+    /// `sound`: whatever the answer, its contexts are those of distinct keys of its place that can be reached, with facts that are justified
+    /// and clauses that are derived. So a caller learns this of a cell at any moment, also after a delivery that answered `Memory`.
+    pub fn is_whole(&self) -> bool
+        ensures whole { IsTrue result ↔ IsWhole self.now }
+        ensures sound { IsSound self.now }
+    {
+        !self.failed
+    }
+
     /// What the context of a named class says of it: that it can have no member, or the named classes that have each of its members.
     ///
-    /// One look-up, linear in the live clauses of the context, and `n log n` in the answer.
+    /// `answer`: that is read off the live clauses of the context. `exact`: where the cell is one of closed cells, it is true in every model
+    /// and complete. One look-up, linear in the live clauses of the context, and `n log n` in the answer.
     pub fn subsumers(&self, alloc: Global, atom: Atom) -> Result<Answer, Memory>
         requires named { is_named self.now.normal atom ≡ true }
         requires here { HasContext self.now.contexts atom }
-        ensures { IfOk result (λ answer. IsSubsumers self.now.normal self.now.contexts atom answer) }
+        ensures answer { IfOk result (λ answer. IsSubsumers self.now.normal self.now.contexts atom answer) }
+        ensures exact { IfOk result (IsExactIn self.now atom) }
     {
         match self.contexts.get(&Key::single(alloc, atom)) {
             Some(context) => answer_of(alloc, self.index, context),
@@ -75,6 +89,10 @@ impl<'a> Actor for Cell<'a> {
     type Msg = Note;
 
     ghost meaning = { meaning };
+
+    ghost same_places = { λ c d e. same_places c d e };
+
+    ghost same_lawful = { λ c d e p m l. same_lawful c d e p m l };
 
     ghost lawful_below = { λ c p m l. l.below };
 

@@ -21,6 +21,7 @@ ghost use Rattle.cd_cell.specs.Closed.{Saturation};
 ghost use Rattle.cd_cell.specs.ClosedCells.{CellExactness};
 ghost use Rattle.cd_cell.specs.Counts.{CellCounts};
 ghost use Rattle.cd_cell.specs.Exactness.{Exactness};
+ghost use Rattle.cd_cell.specs.TrueAnswers.{OneTrueAnswer, SameAnswers};
 
 pub use cell::Cell;
 
@@ -47,6 +48,17 @@ pub fn answers_are_exact()
 /// In whole cells where each note that one of them owes is had, the context of each atom is exact, as above.
 pub fn cells_are_exact()
     ensures { CellExactness }
+{}
+
+/// A class has one true answer: what an exact answer says of it in every model tells which answer it is.
+pub fn has_one_true_answer()
+    ensures { OneTrueAnswer }
+{}
+
+/// The same answers for every order of delivery, and for every number of cells: in any two lists of whole cells where each note that is owed
+/// is had, the contexts of a class answer the same.
+pub fn same_answers()
+    ensures { SameAnswers }
 {}
 
 /// The counts of whole cells are no more than they have contexts of distinct keys, and facts in these.

@@ -1,9 +1,10 @@
 -- A context takes a fact.
-use Rattle.std.proofs.Common.{◌≡◌, ◌==◌, ◌&&◌, ◌∙◌, true, false, ℕ, inl, inr, List, [], ◌∷◌, ◌++◌, length, filter, nat_lt, refl, sym, subst, arith}
+use Rattle.std.proofs.Common.{◌≡◌, ◌==◌, ◌&&◌, ◌∙◌, ◌⊎◌, Bool, true, false, ℕ, eqb-true, inl, inr, List, [], ◌∷◌, ◌++◌, length, filter, nat_lt, refl, sym, subst, arith}
+use Rattle.std.specs.List.{list_any}
 use Rattle.cd_base.specs.Lists.{Member, IsApart}
 use Rattle.cd_base.specs.declared.normal.Normal.{Normal}
-use Rattle.cd_base.proofs.Members.{member_left, member_cases, any_by_member}
-use Rattle.std.proofs.lemmas.Bool.{and_from, false≢true, eq-eqb}
+use Rattle.cd_base.proofs.Members.{member_left, member_cases, any_by_member, any_member}
+use Rattle.std.proofs.lemmas.Bool.{and_from, and_parts, false≢true, eq-eqb}
 use Rattle.std.proofs.lemmas.Cmp.{nat_list_eq_equiv}
 use Rattle.cd_context.specs.Facts.{has_fact, same_key}
 use Rattle.cd_clause.specs.declared.elem.Elem.{Elem}
@@ -11,17 +12,18 @@ use Rattle.cd_rules.specs.declared.facts.BackFact.{BackFact}
 use Rattle.cd_rules.specs.declared.facts.DeadFact.{DeadFact}
 use Rattle.cd_store.specs.Store.{IsStore}
 use Rattle.cd_context.specs.declared.facts.Fact.{Fact}
-use Rattle.cd_context.specs.declared.facts.Fact.TheVariants.{Link, Back, Dead}
+use Rattle.cd_context.specs.declared.facts.Fact.TheVariants.{Start, Link, Back, Dead}
 use Rattle.cd_context.specs.declared.facts.LinkFact.{LinkFact}
 use Rattle.cd_context.specs.declared.facts.Note.{Note}
 use Rattle.cd_context.specs.Absorbing.{Keeps, Absorbs}
-use Rattle.cd_context.specs.Calls.{Sends}
+use Rattle.cd_context.specs.Calls.{GainsOnly, Sends}
 use Rattle.cd_context.specs.Justified.{Justified, IsContext, ClosedLocally, IsInTurn}
 use Rattle.cd_context.specs.Owes.{Owes}
 use Rattle.cd_context.specs.State.{State}
 use Rattle.cd_context.specs.TakeUp.{ClosedUpTo}
 use Rattle.cd_context.proofs.Adds.{Continues}
 use Rattle.cd_context.proofs.Grown.{begins_same, Longer, grows, risen, length_one_more, had_link, had_back, had_dead}
+use Rattle.cd_context.proofs.Once.{same_key-true}
 use Rattle.cd_context.proofs.Sent.{sends_less, owed_after}
 use Rattle.cd_context.proofs.TakeUps.{none_waits}
 
@@ -63,9 +65,18 @@ new_dead : (s : State) (f : DeadFact) → has_fact s (Dead f.role f.key) ≡ fal
 new_dead s f h m = false≢true (sym h ∙ any_by_member (λ (g : DeadFact). f.role == g.role && same_key f.key g.key) s.deads f m
     (and_from (f.role == f.role) (same_key f.key f.key) (eq-eqb f.role f.role refl) (same_self f.key)))
 
+-- what passes among these with one more, passed among them, or that one does
+any_with : {X : Type 0} (p : X → Bool) (old new : List X) (f : X) → new ≡ old ++ f ∷ [] → list_any p new ≡ true → (list_any p old ≡ true) ⊎ (p f ≡ true)
+any_with p old new f e h =
+    let m = any_member p new h in
+    elim (member_cases m.0 old (f ∷ []) (subst (λ w. Member m.0 w) e m.1)) [
+      | inl l ↦ inl (any_by_member p old m.0 l m.2)
+      | inr l ↦ elim l [ inl q ↦ inr (subst (λ x. p x ≡ true) q m.2) | inr z ↦ absurd z ]
+    ]
+
 -- the old state under another name
-pub keeps_of : (n : Normal) (old old' new : State) → old ≡ old' → Keeps n old new → Keeps n old' new
-keeps_of n old old' new e k = subst (λ s. Keeps n s new) e k
+pub keeps_of : (n : Normal) (old old' new : State) {fact : Fact} → old ≡ old' → Keeps n old fact new → Keeps n old' fact new
+keeps_of n old old' new {fact} e k = subst (λ s. Keeps n s fact new) e k
 
 pub absorbs_of : (n : Normal) (old old' : State) (fact : Fact) (new : State) (out new_out : List Note) → old ≡ old' → Absorbs n old fact new out new_out → Absorbs n old' fact new out new_out
 absorbs_of n old old' fact new out new_out e k = subst (λ s. Absorbs n s fact new out new_out) e k
@@ -78,7 +89,17 @@ module _ (n : Normal) (old : State) (f : LinkFact) (links : List LinkFact) (kept
   longer_link : Longer old with_link
   longer_link = record { key = refl; clauses = begins_same old.clauses; links = (f ∷ [], e); backs = begins_same old.backs; deads = begins_same old.deads }
 
-  pub keeps_link : Keeps n old with_link
+  -- of the links, the old ones and this one are had
+  gained_link : GainsOnly old (Link f.key f.role) with_link
+  gained_link Start h = inl refl
+  gained_link (Link k r) h = elim (any_with (λ (g : LinkFact). same_key k g.key && r == g.role) old.links links f e h) [
+    | inl m ↦ inl m
+    | inr p ↦ let q = and_parts (same_key k f.key) (r == f.role) p in let key : k ≡ f.key = same_key-true k f.key q.0 in let role : r ≡ f.role = eqb-true r f.role q.1 in inr cc
+  ]
+  gained_link (Back r k a) h = inl h
+  gained_link (Dead r k) h = inl h
+
+  pub keeps_link : Keeps n old (Link f.key f.role) with_link
   keeps_link = record {
     context = record {
       reachable = kept.reachable;
@@ -92,6 +113,7 @@ module _ (n : Normal) (old : State) (f : LinkFact) (links : List LinkFact) (kept
       store = kept.store;
     };
     grows = grows old with_link longer_link;
+    only = gained_link;
   }
 
   pub absorbs_link : (out new_out : List Note)
@@ -112,7 +134,18 @@ module _ (n : Normal) (old : State) (f : BackFact) (backs : List BackFact) (clau
   longer_back : Longer old with_back
   longer_back = record { key = refl; clauses = continues.follows; links = begins_same old.links; backs = (f ∷ [], e); deads = begins_same old.deads }
 
-  pub keeps_back : Keeps n old with_back
+  -- of the backs, the old ones and this one are had
+  gained_back : GainsOnly old (Back f.role f.key f.atom) with_back
+  gained_back Start h = inl refl
+  gained_back (Link k r) h = inl h
+  gained_back (Back r k a) h = elim (any_with (λ (g : BackFact). r == g.role && (same_key k g.key && a == g.atom)) old.backs backs f e h) [
+    | inl m ↦ inl m
+    | inr p ↦ let q = and_parts (r == f.role) (same_key k f.key && a == f.atom) p in let w = and_parts (same_key k f.key) (a == f.atom) q.1 in
+        let role : r ≡ f.role = eqb-true r f.role q.0 in let key : k ≡ f.key = same_key-true k f.key w.0 in let atom : a ≡ f.atom = eqb-true a f.atom w.1 in inr cc
+  ]
+  gained_back (Dead r k) h = inl h
+
+  pub keeps_back : Keeps n old (Back f.role f.key f.atom) with_back
   keeps_back = record {
     context = record {
       reachable = kept.reachable;
@@ -126,6 +159,7 @@ module _ (n : Normal) (old : State) (f : BackFact) (backs : List BackFact) (clau
       store = store;
     };
     grows = grows old with_back longer_back;
+    only = gained_back;
   }
 
   pub absorbs_back : (out new_out : List Note) (stored : ℕ) → ClosedUpTo n old.key (record { backs = backs; deads = old.deads }) clauses live [] [] → stored ≡ length old.clauses
@@ -147,7 +181,17 @@ module _ (n : Normal) (old : State) (f : DeadFact) (deads : List DeadFact) (clau
   longer_dead : Longer old with_dead
   longer_dead = record { key = refl; clauses = continues.follows; links = begins_same old.links; backs = begins_same old.backs; deads = (f ∷ [], e) }
 
-  pub keeps_dead : Keeps n old with_dead
+  -- of the deads, the old ones and this one are had
+  gained_dead : GainsOnly old (Dead f.role f.key) with_dead
+  gained_dead Start h = inl refl
+  gained_dead (Link k r) h = inl h
+  gained_dead (Back r k a) h = inl h
+  gained_dead (Dead r k) h = elim (any_with (λ (g : DeadFact). r == g.role && same_key k g.key) old.deads deads f e h) [
+    | inl m ↦ inl m
+    | inr p ↦ let q = and_parts (r == f.role) (same_key k f.key) p in let role : r ≡ f.role = eqb-true r f.role q.0 in let key : k ≡ f.key = same_key-true k f.key q.1 in inr cc
+  ]
+
+  pub keeps_dead : Keeps n old (Dead f.role f.key) with_dead
   keeps_dead = record {
     context = record {
       reachable = kept.reachable;
@@ -161,6 +205,7 @@ module _ (n : Normal) (old : State) (f : DeadFact) (deads : List DeadFact) (clau
       store = store;
     };
     grows = grows old with_dead longer_dead;
+    only = gained_dead;
   }
 
   pub absorbs_dead : (out new_out : List Note) (stored : ℕ) → ClosedUpTo n old.key (record { backs = old.backs; deads = deads }) clauses live [] [] → stored ≡ length old.clauses

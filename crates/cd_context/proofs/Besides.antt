@@ -4,7 +4,7 @@ use Rattle.std.specs.Prelude.{nat_lt}
 use Rattle.std.proofs.lemmas.Bool.{and_from, and_parts, cases_eq, cond-true, lt-ltb, ltb-true, ne_eqb, not_from_false}
 use Rattle.std.proofs.lemmas.List.{nil_from_length}
 use Rattle.cd_base.specs.Lists.{Member}
-use Rattle.cd_base.specs.Normal.{has_numbers_below}
+use Rattle.cd_base.specs.Normal.{is_triple_below}
 use Rattle.cd_base.specs.declared.normal.Conj.{Conj}
 use Rattle.cd_base.specs.declared.normal.Normal.{Normal}
 use Rattle.cd_base.specs.declared.normal.Triple.{Triple}
@@ -159,7 +159,7 @@ by_atom n clauses atoms every m q =
 pub universal_below : (n : Normal) (a : ℕ) → ((t : Triple) × Member t n.n4 × (t.atom ≡ a)) → a < n.atoms
 universal_below n a q =
     let t : Triple = q.0 in
-    let h = all_member (has_numbers_below n.atoms n.roles) n.n4 n.n4_within t q.1 in
+    let h = all_member (is_triple_below n.atoms n.roles) n.n4 n.n4_within t q.1 in
     let b = and_parts (nat_lt t.atom n.atoms && nat_lt t.role n.roles) (nat_lt t.other n.atoms) h in
     subst (λ (c : ℕ). c < n.atoms) q.2 (ltb-true t.atom n.atoms (and_parts (nat_lt t.atom n.atoms) (nat_lt t.role n.roles) b.0).0)
 

@@ -19,7 +19,7 @@ use Rattle.cd_context.specs.Once.{AppendsOnce, HasEachOnce}
 
 -- ---- what equal notes are
 
-same_key-true : (k l : List ℕ) → pointwise nat_eq k l ≡ true → k ≡ l
+pub same_key-true : (k l : List ℕ) → pointwise nat_eq k l ≡ true → k ≡ l
 same_key-true k l e = (slice_eq-Decides Decides-eqb k l (pointwise nat_eq k l) refl).0 e
 
 same_fact-true : (f g : Fact) → (facts.ghosts).eq f g ≡ true → f ≡ g

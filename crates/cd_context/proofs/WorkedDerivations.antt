@@ -13,7 +13,7 @@ use Rattle.cd_clause.specs.Elements.{Eligible, rank}
 use Rattle.cd_clause.specs.Rules.{by_init, by_neg, by_ex, by_back}
 use Rattle.cd_clause.proofs.Derive.{derived_closed}
 use Rattle.cd_clause.proofs.Dictionary.{at_most_refl}
-use Rattle.cd_context.specs.declared.facts.Fact.TheVariants.{Back, Dead}
+use Rattle.cd_context.specs.declared.facts.Fact.TheVariants.{Link, Back, Dead}
 use Rattle.cd_context.specs.Justified.{Justified}
 
 module _ (n : Normal) where
@@ -46,13 +46,16 @@ module _ (n : Normal) where
     four_in_four : HasDerived n (plain 4 ∷ []) (Plain 4)
     four_in_four = (Plain 4 ∷ [], in_key 4 (plain 4 ∷ []) (inl refl), alone (Plain 4))
 
+    edge_of_two : (key k : List ℕ) → key ≡ plain 2 ∷ [] → k ≡ plain 4 ∷ [] → HasDerived n key (Exist 0 k)
+    edge_of_two key k p q =
+        subst (λ (x : List ℕ). HasDerived n x (Exist 0 k)) (sym p) (subst (λ (y : List ℕ). HasDerived n (plain 2 ∷ []) (Exist 0 y)) (sym q)
+        (Exist 0 (plain 4 ∷ []) ∷ [], edge_to_four, alone (Exist 0 (plain 4 ∷ []))))
+
+    pub link_justified : (key h : List ℕ) → key ≡ plain 4 ∷ [] → h ≡ plain 2 ∷ [] → Reachable n h → Justified n key (Link h 0)
+    link_justified key h p q reachable = (reachable, edge_of_two h key q p)
+
     pub back_justified : (key k : List ℕ) → key ≡ plain 2 ∷ [] → k ≡ plain 4 ∷ [] → Reachable n key → Justified n key (Back 0 k 4)
-    back_justified key k p q reachable = (
-      reachable,
-      subst (λ (x : List ℕ). HasDerived n x (Exist 0 k)) (sym p) (subst (λ (y : List ℕ). HasDerived n (plain 2 ∷ []) (Exist 0 y)) (sym q)
-          (Exist 0 (plain 4 ∷ []) ∷ [], edge_to_four, alone (Exist 0 (plain 4 ∷ [])))),
-      subst (λ (y : List ℕ). HasDerived n y (Plain 4)) (sym q) four_in_four,
-    )
+    back_justified key k p q reachable = (reachable, edge_of_two key k p q, subst (λ (y : List ℕ). HasDerived n y (Plain 4)) (sym q) four_in_four)
 
     module _ (back : Member (record { atom = 4; role = 0; other = 5 }) n.n3) where
       five_or_edge : Derived n (plain 2 ∷ []) (Plain 5 ∷ Exist 0 (plain 4 ∷ negated 4 ∷ []) ∷ [])

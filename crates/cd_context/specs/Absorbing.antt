@@ -3,16 +3,17 @@ use Rattle.std.specs.Prelude.{◌≡◌, ◌<◌, ◌⊎◌, true, List}
 use Rattle.cd_base.specs.declared.normal.Normal.{Normal}
 use Rattle.cd_context.specs.declared.facts.Fact.{Fact}
 use Rattle.cd_context.specs.declared.facts.Note.{Note}
-use Rattle.cd_context.specs.Calls.{Grows, Sends}
+use Rattle.cd_context.specs.Calls.{Grows, GainsOnly, Sends}
 use Rattle.cd_context.specs.Facts.{has_fact, count, last}
 use Rattle.cd_context.specs.Justified.{IsContext, ClosedLocally}
 use Rattle.cd_context.specs.Owes.{Owes}
 use Rattle.cd_context.specs.State.{State}
 
--- at every moment, also after want of memory
-pub record Keeps (n : Normal) (old new : State) : Type 0 where
+-- whether the fact was taken or memory was wanted
+pub record Keeps (n : Normal) (old : State) (fact : Fact) (new : State) : Type 0 where
   pub context : IsContext n new
   pub grows : Grows old new
+  pub only : GainsOnly old fact new
 
 -- a fact that it didn't have was taken
 pub record Absorbs (n : Normal) (old : State) (fact : Fact) (new : State) (out new_out : List Note) : Type 0 where

@@ -21,6 +21,10 @@ pub record Grows (old new : State) : Type 0 where
   pub facts : (f : Fact) → has_fact old f ≡ true → has_fact new f ≡ true
   pub count : (count old < count new) ⊎ (count new ≡ count old)
 
+-- the new state has no fact but those of the old one and this one
+abbrev pub GainsOnly : State → Fact → State → Type 0
+GainsOnly old fact new = (f : Fact) → has_fact new f ≡ true → (has_fact old f ≡ true) ⊎ (f ≡ fact)
+
 -- `new_out` is `out` followed by notes that the new state owes, and where the work was done, by each that became owed
 pub record Sends (n : Normal) (Done : Type 0) (WasOwed : Note → Type 0) (state : State) (out new_out : List Note) : Type 0 where
   pub added : List Note

@@ -1,7 +1,7 @@
 //! A context that is told of the contexts of its existentials. Expected values are written by hand.
 //! What has many parts is let go of by `drop`, which the prover takes as one step.
-ghost use Rattle.std.specs.Prelude.{◌≡◌, ◌∷◌, []};
-ghost use Rattle.cd_base.specs.Keys.{plain, negated};
+ghost use Rattle.std.specs.Prelude.{◌≡◌, ◌∷◌, [], true};
+ghost use Rattle.cd_base.specs.Keys.{is_named, plain, negated};
 ghost use Rattle.cd_base.specs.Lists.{Member};
 ghost use Rattle.cd_context.specs.Justified.{IsContext, ClosedLocally};
 
@@ -30,18 +30,34 @@ fn four_and_not_four(rt: &impl Abort, alloc: Global) -> Key
     four(alloc).with(not_four).expect(rt, "memory")
 }
 
-/// Whether the notes are the link of 2 to the context of this key, and no other.
-fn are_the_link_to(alloc: Global, notes: &[Note], key: Key) -> bool {
-    let link = Note {
-        key,
-        fact: Fact::Link(Key::single(alloc, Atom(2)), Role(0)),
-    };
+/// The key of 2.
+fn two(alloc: Global) -> Key
+    ensures { result ≡ plain 2 ∷ [] }
+{
+    Key::single(alloc, Atom(2))
+}
+
+/// Whether the notes are this one, and no other.
+fn are_only(notes: &[Note], wanted: Note) -> bool {
     let holds = match notes {
-        [note] => *note == link,
+        [note] => *note == wanted,
         _ => false,
     };
-    drop(link);
+    drop(wanted);
     holds
+}
+
+/// Whether the notes are the link of 2 to the context of this key, and no other.
+fn are_the_link_to(alloc: Global, notes: &[Note], key: Key) -> bool {
+    let fact = Fact::Link(two(alloc), Role(0));
+    are_only(notes, Note { key, fact })
+}
+
+/// Whether the notes are that the context of 4 has the class 4, for the context of 2, and no other.
+fn are_the_back_of_four(alloc: Global, notes: &[Note]) -> bool {
+    let key = two(alloc);
+    let fact = Fact::Back(Role(0), four(alloc), Atom(4));
+    are_only(notes, Note { key, fact })
 }
 
 /// Tells the context of 2 that the context of 4 has the class 4.
@@ -143,7 +159,8 @@ fn owes_the_first_link_alone(
 #[test]
 fn a_clause_whose_existential_is_impossible_gives_way_to_its_rest(rt: HostRuntime) {
     let index = hand_made(&rt, rt.alloc());
-    let mut context = begun(&rt, rt.alloc(), &index);
+    let mut context = begun(&rt, rt.alloc(), &index, 2);
+    assert!(rt; owes_the_first_link_alone(&rt, rt.alloc(), &index, &context));
     assert!(rt; tells_of_the_back(&rt, rt.alloc(), &index, &mut context));
     assert!(rt; is_silent_at_the_dead(&rt, rt.alloc(), &index, &mut context));
     assert!(rt; owes_the_first_link_alone(&rt, rt.alloc(), &index, &context));
@@ -157,5 +174,61 @@ fn an_existential_is_told_as_a_link(rt: HostRuntime) {
     let notes = notes_when_begun(&rt, rt.alloc(), &index);
     assert!(rt; are_the_link_to(rt.alloc(), notes.as_slice(), four(rt.alloc())));
     drop(notes);
+    drop(index);
+}
+
+/// Tells the context of 4 that the context of 2 has an existential to it.
+fn tell_link(
+    rt: &impl Abort,
+    alloc: Global,
+    index: &Index,
+    context: &mut Context,
+    out: &mut Vec<Note>,
+)
+    requires two { is_named index.now.normal 2 ≡ true }
+    requires edge { Member (record { atom = 2; role = 0; other = 4 }) index.now.normal.n2 }
+    requires key { context.old.key ≡ plain 4 ∷ [] }
+    requires context { IsContext index.now.normal context.old }
+    requires closed { ClosedLocally index.now.normal context.old }
+{
+    context
+        .absorb(alloc, Fact::Link(two(alloc), Role(0)), index, out)
+        .expect(rt, "memory");
+}
+
+/// Whether the link makes the context tell 2 that it has the class 4, and nothing else, and is the only fact that comes.
+fn tells_of_its_class(rt: &impl Abort, alloc: Global, index: &Index, context: &mut Context) -> bool
+    requires two { is_named index.now.normal 2 ≡ true }
+    requires edge { Member (record { atom = 2; role = 0; other = 4 }) index.now.normal.n2 }
+    requires key { context.old.key ≡ plain 4 ∷ [] }
+    requires context { IsContext index.now.normal context.old }
+    requires closed { ClosedLocally index.now.normal context.old }
+{
+    let mut out = Vec::new(alloc);
+    let before = context.facts();
+    tell_link(rt, alloc, index, context, &mut out);
+    let told = are_the_back_of_four(alloc, out.as_slice());
+    drop(out);
+    before == 2 && told && context.facts() == 3
+}
+
+/// Whether it owes the back of 4 to the context of 2, and no other.
+fn owes_the_back_of_four(rt: &impl Abort, alloc: Global, index: &Index, context: &Context) -> bool {
+    let mut out = Vec::new(alloc);
+    context
+        .list_owed(alloc, index, &mut out)
+        .expect(rt, "memory");
+    let holds = are_the_back_of_four(alloc, out.as_slice());
+    drop(out);
+    holds
+}
+
+#[test]
+fn a_link_is_answered_by_a_back_for_the_atom_of_use(rt: HostRuntime) {
+    let index = hand_made(&rt, rt.alloc());
+    let mut context = begun(&rt, rt.alloc(), &index, 4);
+    assert!(rt; tells_of_its_class(&rt, rt.alloc(), &index, &mut context));
+    assert!(rt; owes_the_back_of_four(&rt, rt.alloc(), &index, &context));
+    drop(context);
     drop(index);
 }

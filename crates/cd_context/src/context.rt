@@ -4,7 +4,7 @@ ghost use Rattle.std.specs.List.Sorted.{IsStrictlyIncreasing};
 ghost use Rattle.cd_base.specs.Lists.{Member};
 ghost use Rattle.cd_clause.specs.Derivations.{Reachable};
 ghost use Rattle.cd_context.specs.Absorbing.{Keeps, Absorbs};
-ghost use Rattle.cd_context.specs.Calls.{IsSingle, Grows, Sends, ListsOwed};
+ghost use Rattle.cd_context.specs.Calls.{IsSingle, Grows, GainsOnly, Sends, ListsOwed};
 ghost use Rattle.cd_context.specs.Facts.{has_fact, count, last};
 ghost use Rattle.cd_context.specs.Justified.{Justified, IsContext, ClosedLocally};
 ghost use Rattle.cd_context.specs.Owes.{Owes};
@@ -90,6 +90,7 @@ impl Context {
         requires justified { Justified index.now.normal self.old.key fact }
         ensures context { IsContext index.now.normal self.new }
         ensures grows { Grows self.old self.new }
+        ensures only { GainsOnly self.old fact self.new }
         ensures closed { OnOk result (ClosedLocally index.now.normal self.new) }
         ensures had { OnOk result (has_fact self.new fact ≡ true) }
         ensures risen { OnOk result (has_fact self.old fact ≡ false → (count self.old < count self.new) ⊎ (count self.new ≡ last)) }
@@ -125,7 +126,7 @@ impl Context {
         requires closed { ClosedLocally index.now.normal self.old }
         requires justified { Justified index.now.normal self.old.key (Link link.key link.role) }
         requires fresh { has_fact self.old (Link link.key link.role) ≡ false }
-        ensures keeps { Keeps index.now.normal self.old self.new }
+        ensures keeps { Keeps index.now.normal self.old (Link link.key link.role) self.new }
         ensures ok { OnOk result (Absorbs index.now.normal self.old (Link link.key link.role) self.new out.old.items out.new.items) }
         ensures err { OnErr result (out.new.items ≡ out.old.items) }
     {
@@ -151,7 +152,7 @@ impl Context {
         requires closed { ClosedLocally index.now.normal self.old }
         requires justified { Justified index.now.normal self.old.key (Back back.role back.key back.atom) }
         requires fresh { has_fact self.old (Back back.role back.key back.atom) ≡ false }
-        ensures keeps { Keeps index.now.normal self.old self.new }
+        ensures keeps { Keeps index.now.normal self.old (Back back.role back.key back.atom) self.new }
         ensures ok { OnOk result (Absorbs index.now.normal self.old (Back back.role back.key back.atom) self.new out.old.items out.new.items) }
         ensures err { OnErr result (out.new.items ≡ out.old.items) }
     {
@@ -192,7 +193,7 @@ impl Context {
         requires closed { ClosedLocally index.now.normal self.old }
         requires justified { Justified index.now.normal self.old.key (Dead dead.role dead.key) }
         requires fresh { has_fact self.old (Dead dead.role dead.key) ≡ false }
-        ensures keeps { Keeps index.now.normal self.old self.new }
+        ensures keeps { Keeps index.now.normal self.old (Dead dead.role dead.key) self.new }
         ensures ok { OnOk result (Absorbs index.now.normal self.old (Dead dead.role dead.key) self.new out.old.items out.new.items) }
         ensures err { OnErr result (out.new.items ≡ out.old.items) }
     {

@@ -61,7 +61,8 @@ fn six_atoms(rt: &impl Abort, alloc: Global) -> Normal
     ensures atoms { result.atoms ≡ 6 }
     ensures roles { result.roles ≡ 1 }
     ensures chains { result.n5 ≡ [] }
-    ensures named { is_named result 2 ≡ true }
+    ensures two { is_named result 2 ≡ true }
+    ensures four { is_named result 4 ≡ true }
     ensures edge { Member (record { atom = 2; role = 0; other = 4 }) result.n2 }
     ensures back { Member (record { atom = 4; role = 0; other = 5 }) result.n3 }
 {
@@ -136,7 +137,8 @@ fn universal_index(rt: &impl Abort, alloc: Global) -> Index
 
 /// The index of `six_atoms`.
 pub(crate) fn hand_made(rt: &impl Abort, alloc: Global) -> Index
-    ensures named { is_named result.normal 2 ≡ true }
+    ensures two { is_named result.normal 2 ≡ true }
+    ensures four { is_named result.normal 4 ≡ true }
     ensures edge { Member (record { atom = 2; role = 0; other = 4 }) result.normal.n2 }
     ensures back { Member (record { atom = 4; role = 0; other = 5 }) result.normal.n3 }
 {
@@ -145,25 +147,25 @@ pub(crate) fn hand_made(rt: &impl Abort, alloc: Global) -> Index
     Index::of(alloc, normal, closure).expect(rt, "memory")
 }
 
-/// Begins the context of the class 2.
-fn begin_two(rt: &impl Abort, alloc: Global, index: &Index, out: &mut Vec<Note>) -> Context
-    requires { is_named index.now.normal 2 ≡ true }
-    ensures key { result.key ≡ plain 2 ∷ [] }
+/// Begins the context of a class.
+fn begin(rt: &impl Abort, alloc: Global, index: &Index, class: u32, out: &mut Vec<Note>) -> Context
+    requires { is_named index.now.normal class ≡ true }
+    ensures key { result.key ≡ plain class ∷ [] }
     ensures context { IsContext index.now.normal result }
     ensures closed { ClosedLocally index.now.normal result }
 {
-    Context::begin(alloc, Key::single(alloc, Atom(2)), index, out).expect(rt, "memory")
+    Context::begin(alloc, Key::single(alloc, Atom(class)), index, out).expect(rt, "memory")
 }
 
-/// The context of the class 2.
-pub(crate) fn begun(rt: &impl Abort, alloc: Global, index: &Index) -> Context
-    requires { is_named index.now.normal 2 ≡ true }
-    ensures key { result.key ≡ plain 2 ∷ [] }
+/// The context of a class.
+pub(crate) fn begun(rt: &impl Abort, alloc: Global, index: &Index, class: u32) -> Context
+    requires { is_named index.now.normal class ≡ true }
+    ensures key { result.key ≡ plain class ∷ [] }
     ensures context { IsContext index.now.normal result }
     ensures closed { ClosedLocally index.now.normal result }
 {
     let mut out = Vec::new(alloc);
-    let context = begin_two(rt, alloc, index, &mut out);
+    let context = begin(rt, alloc, index, class, &mut out);
     drop(out);
     context
 }
@@ -173,7 +175,7 @@ pub(crate) fn notes_when_begun(rt: &impl Abort, alloc: Global, index: &Index) ->
     requires { is_named index.now.normal 2 ≡ true }
 {
     let mut out = Vec::new(alloc);
-    drop(begin_two(rt, alloc, index, &mut out));
+    drop(begin(rt, alloc, index, 2, &mut out));
     out
 }
 
@@ -190,7 +192,7 @@ fn is_as_it_should_be(context: &Context) -> bool {
 #[test]
 fn a_context_is_closed(rt: HostRuntime) {
     let index = hand_made(&rt, rt.alloc());
-    let context = begun(&rt, rt.alloc(), &index);
+    let context = begun(&rt, rt.alloc(), &index, 2);
     assert!(rt; is_as_it_should_be(&context));
     drop(context);
     drop(index);
@@ -204,7 +206,7 @@ fn are_the_three(atoms: &[Atom]) -> bool {
 #[test]
 fn the_atoms_that_stand_alone_ascend(rt: HostRuntime) {
     let index = hand_made(&rt, rt.alloc());
-    let context = begun(&rt, rt.alloc(), &index);
+    let context = begun(&rt, rt.alloc(), &index, 2);
     let atoms = context.singles(rt.alloc()).expect(&rt, "memory");
     assert!(rt; are_the_three(atoms.as_slice()));
     drop(context);
@@ -219,7 +221,7 @@ fn has_what_pairs_give(context: &Context) -> bool {
 #[test]
 fn clauses_that_are_of_use_to_each_other_meet(rt: HostRuntime) {
     let index = universal_index(&rt, rt.alloc());
-    let context = begun(&rt, rt.alloc(), &index);
+    let context = begun(&rt, rt.alloc(), &index, 2);
     assert!(rt; has_what_pairs_give(&context));
     drop(context);
     drop(index);

@@ -4,6 +4,7 @@ use Rattle.std.proofs.lemmas.Bool.{cases_Bool}
 use Rattle.std.proofs.lemmas.List.{append-nil, nil_from_length}
 use Rattle.cd_base.specs.Lists.{Member, IsApart}
 use Rattle.cd_actor.specs.Sends.{sent}
+use Rattle.cd_actor.specs.Laws.{OwedInFamily}
 use Rattle.cd_actor.specs.Meaning.{Meaning}
 use Rattle.cd_actor.specs.Cells.{At, IsLawful, Had, HadOrPends, AreCells}
 use Rattle.cd_core.specs.State.{Runs}
@@ -83,11 +84,11 @@ join_end {M = M} g cells all old left new j e = record { apart = j.apart; are = 
     ]
 
 -- what a cell owes is lawful
-pub owed_lawful : {A M : Type 0} (g : Meaning A M) (cells : List A) (i : ℕ) (a : A) (x : ℕ × M) → AreCells g cells → ((a : A) (p : ℕ) (m : M) → g.whole a → g.owes a p m → g.lawful a p m) → ((a : A) (p : ℕ) (m : M) → g.lawful a p m → p < g.places a) → At cells i a → g.owes a x.0 x.1 → IsLawful g cells x
-owed_lawful g cells i a x k law below at o =
-    let l = law a x.0 x.1 (k.whole i a at) o in
-    let b : x.0 < g.places a = below a x.0 x.1 l in let f : g.places a ≡ length cells = k.places i a at in
-    (omega arith, λ c j. k.lawful i x.0 a c at j x.0 x.1 l)
+pub owed_lawful : {A M : Type 0} (g : Meaning A M) (cells : List A) (i : ℕ) (a : A) (x : ℕ × M) → AreCells g cells → OwedInFamily g → At cells i a → g.owes a x.0 x.1 → IsLawful g cells x
+owed_lawful g cells i a x k law at o =
+    let w = k.whole i a at in
+    let b : x.0 < g.places a = (law a a refl w x.0 x.1 o).0 in let f : g.places a ≡ length cells = k.places i a at in
+    (omega arith, λ c j. (law a c (k.family i x.0 a c at j) w x.0 x.1 o).1)
 
 -- what one cell lists, without what is had
 pub owed_of : {A M : Type 0} (g : Meaning A M) (cells : List A) (a : A) (owed part : List (ℕ × M)) → ((p : ℕ) (m : M) → Member (p, m) owed → g.owes a p m) → ((p : ℕ) (m : M) → g.owes a p m → Member (p, m) owed) → IsNotHadOf g cells owed part → IsOwedOf g cells a part
@@ -125,20 +126,20 @@ in_turn_every g cells (b ∷ rest) more h zero a at x o n =
 in_turn_every g cells (b ∷ rest) more h (suc i) a at x o n = subst (λ q. Member x q) (sym h.2) (member_right x h.0 h.1 (in_turn_every g cells rest h.1 h.4 i a at x o n))
 
 -- the cells with the start messages and what is owed
-pub runs_begun : {A M : Type 0} (g : Meaning A M) (cells : List A) (start more pending : List (ℕ × M)) → AreCells g cells → ((a : A) (p : ℕ) (m : M) → g.whole a → g.owes a p m → g.lawful a p m) → ((a : A) (p : ℕ) (m : M) → g.lawful a p m → p < g.places a)
+pub runs_begun : {A M : Type 0} (g : Meaning A M) (cells : List A) (start more pending : List (ℕ × M)) → AreCells g cells → OwedInFamily g
     → AreAllLawful g cells start → pending ≡ start ++ more → IsOwedInTurn g cells cells more → Runs g cells pending
-runs_begun {A = A} {M = M} g cells start more pending k law below s e o = record {
+runs_begun {A = A} {M = M} g cells start more pending k law s e o = record {
   cells_ok = k;
   lawful = λ x h. elim (member_cases x start more (subst (λ q. Member x q) e h)) [
     | inl i ↦ s x i
-    | inr i ↦ let w = in_turn_only g cells cells more o x i in owed_lawful g cells w.0 w.1 x k law below w.2 w.3
+    | inr i ↦ let w = in_turn_only g cells cells more o x i in owed_lawful g cells w.0 w.1 x k law w.2 w.3
   ];
   owed = λ i a at p m w. owed i a at (p, m) w;
 }
   where
     owed : (i : ℕ) (a : A) → At cells i a → (x : ℕ × M) → g.owes a x.0 x.1 → HadOrPends g cells pending x
     owed i a at x w =
-        let l = owed_lawful g cells i a x k law below at w in let c = at_some cells x.0 l.0 in
+        let l = owed_lawful g cells i a x k law at w in let c = at_some cells x.0 l.0 in
         elim (cases_Bool (g.has c.0 x.1)) [
           | inl h ↦ inl (c.0, c.1, h)
           | inr h ↦ inr (subst (λ q. Member x q) (sym e) (member_right x start more (in_turn_every g cells cells more o i a at x w (λ d.
@@ -146,13 +147,13 @@ runs_begun {A = A} {M = M} g cells start more pending k law below s e o = record
         ]
 
 -- the start messages went through one by one, `slice` is the cells, and what is owed was appended
-pub begun : {A M : Type 0} (g : Meaning A M) (cells slice : List A) (start first rest pending : List (ℕ × M)) → AreCells g cells → ((a : A) (p : ℕ) (m : M) → g.whole a → g.owes a p m → g.lawful a p m) → ((a : A) (p : ℕ) (m : M) → g.lawful a p m → p < g.places a)
+pub begun : {A M : Type 0} (g : Meaning A M) (cells slice : List A) (start first rest pending : List (ℕ × M)) → AreCells g cells → OwedInFamily g
     → AreAllLawful g cells start → first ++ rest ≡ start → length rest ≡ 0 → pending ≡ first ++ sent first pending → slice ≡ cells → IsOwedInTurn g slice slice (sent first pending)
     → Runs g cells pending × IsBegun g cells start (cells, pending, false)
-begun g cells slice start first rest pending k law below s e n f q o =
+begun g cells slice start first rest pending k law s e n f q o =
     let first_is : first ≡ start = sym (append-nil first) ∙ ap (λ r. first ++ r) (sym (nil_from_length rest n)) ∙ e in
     let follows : pending ≡ start ++ sent first pending = f ∙ ap (λ r. r ++ sent first pending) first_is in
     let owed : IsOwedInTurn g cells cells (sent first pending) = subst (λ r. IsOwedInTurn g r r (sent first pending)) q o in (
-      runs_begun g cells start (sent first pending) pending k law below s follows owed,
+      runs_begun g cells start (sent first pending) pending k law s follows owed,
       record { cells_are = refl; more = sent first pending; pending = follows; owed = owed; stands = refl },
     )

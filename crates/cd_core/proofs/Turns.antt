@@ -7,11 +7,12 @@ use Rattle.cd_base.specs.Lists.{Member}
 use Rattle.cd_actor.specs.Meaning.{HasRisen, Meaning, Keeps, Delivers}
 use Rattle.cd_actor.specs.Cells.{At, IsLawful, Had, HadOrPends, IsOwedCovered, last, total}
 use Rattle.cd_core.specs.State.{Runs, KeepsAll, KeepsFamily, KeepsHad}
-use Rattle.cd_core.specs.Ends.{IsEnd}
+use Rattle.cd_core.specs.Ends.{IsEnd, IsOneDeliveryPast}
 use Rattle.cd_base.proofs.Members.{member_left, member_right, member_cases}
 use Rattle.cd_actor.proofs.At.{at_below, at_one, at_of_set, at_to_set, at_same, at_some, at_get, remove_to, remove_from, at_member}
 
-module _ {A M : Type 0} (g : Meaning A M) (below : (a : A) (p : ℕ) (m : M) → g.lawful a p m → p < g.places a) (cells : List A) (p : ℕ) (m : M) (pending out : List (ℕ × M)) (a b : A)
+module _ {A M : Type 0} (g : Meaning A M) (below : (a : A) (p : ℕ) (m : M) → g.lawful a p m → p < g.places a)
+    (same_places : (a b : A) → g.family a ≡ g.family b → g.places a ≡ g.places b) (same_lawful : (a b : A) → g.family a ≡ g.family b → (p : ℕ) (m : M) → g.lawful a p m → g.lawful b p m) (cells : List A) (p : ℕ) (m : M) (pending out : List (ℕ × M)) (a b : A)
     (r : Runs g cells ((p, m) ∷ pending)) (at : At cells p a) (k : Keeps g a b) (d : Delivers g a m b out) (s : (x : ℕ × M) → Member x out → g.lawful a x.0 x.1) where
   -- what was had is had
   pub turn_had : KeepsHad g cells (set cells p b)
@@ -42,20 +43,17 @@ module _ {A M : Type 0} (g : Meaning A M) (below : (a : A) (p : ℕ) (m : M) →
 
   places_step : (i : ℕ) (x : A) → At (set cells p b) i x → g.places x ≡ length (set cells p b)
   places_step i x h = elim (cases_at i x h) [
-    | inl q ↦ let e : g.places x ≡ g.places b = ap g.places q.1 in let f : g.places a ≡ length cells = r.cells_ok.places p a at in let j : g.places b ≡ g.places a = k.places in let l : length (set cells p b) ≡ length cells = length-set cells p b in cc
+    | inl q ↦ let e : g.places x ≡ g.places b = ap g.places q.1 in let f : g.places a ≡ length cells = r.cells_ok.places p a at in let j : g.places b ≡ g.places a = same_places b a k.family in let l : length (set cells p b) ≡ length cells = length-set cells p b in cc
     | inr q ↦ let f : g.places x ≡ length cells = r.cells_ok.places i x q in let l : length (set cells p b) ≡ length cells = length-set cells p b in cc
-  ]
-
-  -- each cell after the turn has the lawful messages of the cell that took the message
-  lawful_as : (i : ℕ) (x : A) → At (set cells p b) i x → (q : ℕ) (n : M) → (g.lawful x q n → g.lawful a q n) × (g.lawful a q n → g.lawful x q n)
-  lawful_as i x h q n = elim (cases_at i x h) [
-    | inl e ↦ (λ l. (k.lawful q n).0 (subst (λ c. g.lawful c q n) e.1 l), λ l. subst (λ c. g.lawful c q n) (sym e.1) ((k.lawful q n).1 l))
-    | inr e ↦ (r.cells_ok.lawful i p x a e at q n, r.cells_ok.lawful p i a x at e q n)
   ]
 
   -- each cell after the turn is of the family of the cell that took the message
   family_as : (i : ℕ) (x : A) → At (set cells p b) i x → g.family x ≡ g.family a
   family_as i x h = elim (cases_at i x h) [ inl e ↦ ap g.family e.1 ∙ k.family | inr e ↦ r.cells_ok.family i p x a e at ]
+
+  -- each cell after the turn has the lawful messages of the cell that took the message
+  lawful_as : (i : ℕ) (x : A) → At (set cells p b) i x → (q : ℕ) (n : M) → (g.lawful x q n → g.lawful a q n) × (g.lawful a q n → g.lawful x q n)
+  lawful_as i x h q n = (same_lawful x a (family_as i x h) q n, same_lawful a x (sym (family_as i x h)) q n)
 
   -- the cells stay of their family
   pub turn_family : KeepsFamily g cells (set cells p b)
@@ -70,7 +68,7 @@ module _ {A M : Type 0} (g : Meaning A M) (below : (a : A) (p : ℕ) (m : M) →
       (omega arith, λ c i. (lawful_as x.0 c i x.0 x.1).1 l)
 
   lawful_at : (x : ℕ × M) → IsLawful g cells x → g.lawful a x.0 x.1
-  lawful_at x l = let c = at_some cells x.0 l.0 in r.cells_ok.lawful x.0 p c.0 a c.1 at x.0 x.1 (l.1 c.0 c.1)
+  lawful_at x l = let c = at_some cells x.0 l.0 in same_lawful c.0 a (r.cells_ok.family x.0 p c.0 a c.1 at) x.0 x.1 (l.1 c.0 c.1)
 
   lawful_step : (x : ℕ × M) → Member x (pending ++ out) → IsLawful g (set cells p b) x
   lawful_step x h = elim (member_cases x pending out h) [
@@ -87,7 +85,7 @@ module _ {A M : Type 0} (g : Meaning A M) (below : (a : A) (p : ℕ) (m : M) →
   -- the cells are whole cells of one family, and what pends is lawful and all that is owed
   pub turn_runs : Runs g (set cells p b) (pending ++ out)
   turn_runs = record {
-    cells_ok = record { place = place_step; places = places_step; family = λ i j x y hx hy. family_as i x hx ∙ sym (family_as j y hy); lawful = λ i j x y hx hy q n l. (lawful_as j y hy q n).1 ((lawful_as i x hx q n).0 l); whole = whole_step };
+    cells_ok = record { place = place_step; places = places_step; family = λ i j x y hx hy. family_as i x hx ∙ sym (family_as j y hy); whole = whole_step };
     lawful = lawful_step;
     owed = owed_step;
   }
@@ -156,3 +154,19 @@ runs_taken {A = A} {M = M} g cells pending n x left r at e = subst (λ q. Runs g
 pub keeps_taken : {A M : Type 0} (g : Meaning A M) (cells : List A) (pending : List (ℕ × M)) (n : ℕ) (x : ℕ × M) (left : List (ℕ × M)) → At pending n x → left ≡ remove pending n → KeepsAll g cells pending cells (x ∷ left)
 keeps_taken g cells pending n x left at e y (inl h) = inl h
 keeps_taken g cells pending n x left at e y (inr h) = inr (subst (λ q. (y ≡ x) ⊎ Member y q) (sym e) (remove_to pending n x y at h))
+
+-- cells that the run came to later are cells of the run, and sums below some numbers are below higher ones
+pub past_more : {A M : Type 0} (g : Meaning A M) (cells later : List A) (contexts facts more_contexts more_facts : ℕ) (after : List A) → KeepsHad g cells later → contexts ≤ more_contexts → facts ≤ more_facts
+    → IsOneDeliveryPast g later contexts facts after → IsOneDeliveryPast g cells more_contexts more_facts after
+past_more g cells later cs fs mc mf after had lc lf p =
+    let few_contexts : total g.contexts p.before < cs = p.few_contexts in
+    let few_facts : total g.facts p.before < fs = p.few_facts in
+    record {
+      before = p.before;
+      message = p.message;
+      out = p.out;
+      had = λ x h. p.had x (had x h);
+      few_contexts = omega arith;
+      few_facts = omega arith;
+      turn = p.turn;
+    }

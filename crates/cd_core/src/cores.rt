@@ -4,7 +4,7 @@ ghost use Rattle.cd_actor.specs.Cells.{AreCells};
 ghost use Rattle.cd_core.specs.State.{Runs, KeepsAll, KeepsFamily, IsSound};
 ghost use Rattle.cd_core.specs.Begin.{AreAllLawful, IsBegun};
 ghost use Rattle.cd_core.specs.Steps.{IsStepOrEmpty};
-ghost use Rattle.cd_core.specs.Ends.{IsEnd, IsStop};
+ghost use Rattle.cd_core.specs.Ends.{IsEnd, IsStop, StopsAtOnce};
 
 use crate::owed::put_owed;
 use crate::stops::{Step, Stop};
@@ -116,14 +116,15 @@ impl<A: Actor> Core<A> {
     /// Delivers the oldest messages until nothing pends or a sum has reached its maximum. The cells, which then have all that they owe
     /// each other.
     ///
-    /// `Limit` where a sum has reached its maximum, the contexts first, with that sum and the cells. `Memory` where a delivery has wanted
-    /// for memory, here or before.
+    /// `Limit` where a sum has reached its maximum, the contexts first, with that sum and the cells. Nothing is delivered from then on
+    /// (`at_once`). `Memory` where a delivery has wanted for memory, here or before.
     pub fn finish(self, alloc: Global, limits: &Limits) -> Result<Vec<A>, Stop<A>>
     where
         A: Drop,
         A::Msg: Drop,
         ensures ok { IfOk result (λ cells. IsEnd A.meaning self.0 self.1 limits.now.max_contexts limits.now.max_facts cells.items) }
         ensures stop { IfErr result (λ stop. IsStop A.meaning self.0 limits.now.max_contexts limits.now.max_facts stop) }
+        ensures at_once { IfErr result (λ stop. StopsAtOnce A.meaning self.0 limits.now.max_contexts limits.now.max_facts stop) }
         ensures spent { self.2 ≡ true → IfOk result (λ _. ⊥) }
     {
         let Core {

@@ -46,6 +46,10 @@ impl Actor for Numbers {
       facts = λ c. length c.2;
     } };
 
+    ghost same_places = { λ c d e. e };
+
+    ghost same_lawful = { λ c d e p m l. let at : c.1 ≡ d.1 = e in Prim.omega arith };
+
     ghost lawful_below = { λ c p m l. l };
 
     ghost owed_lawful = { λ c p m w o. let e : p ≡ m % c.1 = o.1 in Prim.omega arith };

@@ -4,6 +4,7 @@ ghost use Rattle.cd_actor.specs.Sends.{sent};
 ghost use Rattle.cd_actor.specs.Cells.{total, last};
 ghost use Rattle.cd_core.specs.State.{Runs, KeepsAll, KeepsFamily, KeepsHad};
 ghost use Rattle.cd_core.specs.Steps.{IsTurn};
+ghost use Rattle.cd_core.specs.Ends.{IsOneDeliveryPast};
 
 use cd_actor::{Actor, Outbox};
 use cd_base::Memory;
@@ -48,7 +49,8 @@ pub(crate) fn deliver_to<A: Actor>(
 
 /// Delivers the oldest messages until a sum has risen. Whether one has; otherwise nothing pends.
 ///
-/// Until then no message was new to its cell, so what pends only grows shorter.
+/// Until then no message was new to its cell, so what pends only grows shorter. `turn`: before the delivery that raised a sum, neither had
+/// risen.
 pub(crate) fn deliver_until_new<A: Actor>(
     alloc: Global,
     cells: &mut Vec<A>,
@@ -72,6 +74,7 @@ where
     ensures more_contexts { OnOk result (contexts.old ≤ contexts.new) }
     ensures more_facts { OnOk result (facts.old ≤ facts.new) }
     ensures risen { IfOk result (λ b. b ≡ true → contexts.old + facts.old < contexts.new + facts.new) }
+    ensures turn { IfOk result (λ b. b ≡ true → IsOneDeliveryPast A.meaning cells.old.items (contexts.old + 1) (facts.old + 1) cells.new.items) }
     ensures done { IfOk result (λ b. b ≡ false → (pending.new ≡ []) × (contexts.new ≡ contexts.old) × (facts.new ≡ facts.old)) }
 {
     let contexts_before = *contexts;

@@ -4,8 +4,8 @@ use Rattle.cd_context.specs.declared.facts.Fact.TheVariants.{Start}
 use Rattle.cd_cell.specs.Cells.{CellState, IsLawfulNote}
 use Rattle.cd_cell.proofs.tests.started.Goals as goal
 
-pub deliver-requires-clause-lawful : goal.deliver-requires-clause-lawful
-deliver-requires-clause-lawful g c =
+pub is_whole_after-requires-clause-lawful : goal.is_whole_after-requires-clause-lawful
+is_whole_after-requires-clause-lawful g c =
     subst (λ (v : CellState). IsLawfulNote v.normal v.cells v.number (record { key = c.single.result; fact = Start })) (sym c.new-cell.ensures) (record {
       below = omega arith;
       goes = omega arith;

@@ -4,6 +4,7 @@ use Rattle.cd_actor.specs.Sends.{sent}
 use Rattle.cd_actor.specs.Cells.{At}
 use Rattle.cd_core.specs.Begin.{IsOwedOf}
 use Rattle.cd_actor.proofs.At.{at_index}
+use Rattle.cd_actor.proofs.Owed.{owed_in_family}
 use Rattle.cd_core.proofs.Lists.{sent_first, follows_more}
 use Rattle.cd_core.proofs.Begins.{owed_lawful, owed_of, in_turn_next}
 use Rattle.cd_core.proofs.owed.put_owed.Goals as goal
@@ -14,7 +15,7 @@ put_not_had-requires-clause-lawful g c x h =
     let at : At cs c.cells.cell-index c.cell-item.result = at_index cs c.cells.cell-index c.cell-item.result c.cells-test.true c.cell-item.is in
     let all : sent c.new-owed.result c.list_owed.new.out ≡ c.list_owed.new.out = sent_first c.new-owed.result c.list_owed.new.out c.new-owed.ensures in
     let owes : m.owes c.cell-item.result x.0 x.1 = c.in_ok-list_owed.ensures.only x.0 x.1 (subst (λ q. Member x q) (sym all) h) in
-    owed_lawful m cs c.cells.cell-index c.cell-item.result x c.requires g.met.A.Actor.owed_lawful g.met.A.Actor.lawful_below at owes
+    owed_lawful m cs c.cells.cell-index c.cell-item.result x c.requires (owed_in_family m g.met.A.Actor.same_lawful g.met.A.Actor.lawful_below g.met.A.Actor.owed_lawful) at owes
 
 pub cells-preserved : goal.cells-preserved
 cells-preserved g c =

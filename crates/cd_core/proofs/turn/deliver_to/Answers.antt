@@ -27,7 +27,7 @@ returns-clause-runs g c =
     let at : At c.args.cells.now.items c.args.cell c.index_mut-actor.result.now = at_index _ _ _ h c.index_mut-actor.ensures.value in
     let e = c.in_ok-deliver.ensures in
     subst (λ q. Runs g.A.Actor.meaning (set c.args.cells.now.items c.args.cell c.deliver.new.self) q) (sym e.sends.follows)
-    (turn_runs g.A.Actor.meaning g.met.A.Actor.lawful_below _ _ _ _ _ _ _ c.requires.runs at e.keeps e.delivers e.sends.each)
+    (turn_runs g.A.Actor.meaning g.met.A.Actor.lawful_below g.met.A.Actor.same_places g.met.A.Actor.same_lawful _ _ _ _ _ _ _ c.requires.runs at e.keeps e.delivers e.sends.each)
 
 pub returns-clause-keeps : goal.returns-clause-keeps
 returns-clause-keeps g c =
@@ -35,21 +35,21 @@ returns-clause-keeps g c =
     let at : At c.args.cells.now.items c.args.cell c.index_mut-actor.result.now = at_index _ _ _ h c.index_mut-actor.ensures.value in
     let e = c.in_ok-deliver.ensures in
     subst (λ q. KeepsAll g.A.Actor.meaning c.args.cells.now.items ((c.args.cell, c.args.message) ∷ c.args.pending.now) (set c.args.cells.now.items c.args.cell c.deliver.new.self) q) (sym e.sends.follows)
-    (turn_keeps g.A.Actor.meaning g.met.A.Actor.lawful_below _ _ _ _ _ _ _ c.requires.runs at e.keeps e.delivers e.sends.each)
+    (turn_keeps g.A.Actor.meaning g.met.A.Actor.lawful_below g.met.A.Actor.same_places g.met.A.Actor.same_lawful _ _ _ _ _ _ _ c.requires.runs at e.keeps e.delivers e.sends.each)
 
 pub returns-clause-had : goal.returns-clause-had
 returns-clause-had g c =
     let h = (c.requires.runs.lawful (c.args.cell, c.args.message) (inl refl)).0 in
     let at : At c.args.cells.now.items c.args.cell c.index_mut-actor.result.now = at_index _ _ _ h c.index_mut-actor.ensures.value in
     let e = c.in_ok-deliver.ensures in
-    turn_had g.A.Actor.meaning g.met.A.Actor.lawful_below _ _ _ _ _ _ _ c.requires.runs at e.keeps e.delivers e.sends.each
+    turn_had g.A.Actor.meaning g.met.A.Actor.lawful_below g.met.A.Actor.same_places g.met.A.Actor.same_lawful _ _ _ _ _ _ _ c.requires.runs at e.keeps e.delivers e.sends.each
 
 pub returns-clause-family : goal.returns-clause-family
 returns-clause-family g c =
     let h = (c.requires.runs.lawful (c.args.cell, c.args.message) (inl refl)).0 in
     let at : At c.args.cells.now.items c.args.cell c.index_mut-actor.result.now = at_index _ _ _ h c.index_mut-actor.ensures.value in
     let e = c.in_ok-deliver.ensures in
-    turn_family g.A.Actor.meaning g.met.A.Actor.lawful_below _ _ _ _ _ _ _ c.requires.runs at e.keeps e.delivers e.sends.each
+    turn_family g.A.Actor.meaning g.met.A.Actor.lawful_below g.met.A.Actor.same_places g.met.A.Actor.same_lawful _ _ _ _ _ _ _ c.requires.runs at e.keeps e.delivers e.sends.each
 
 pub returns-clause-contexts : goal.returns-clause-contexts
 returns-clause-contexts g c =

@@ -1,5 +1,5 @@
-use Rattle.std.proofs.Common.{subst, sym, ◌∙◌}
-use Rattle.cd_actor.specs.Cells.{HadOrPends}
+use Rattle.std.proofs.Common.{◌≡◌, subst, sym, ◌∙◌, arith}
+use Rattle.cd_actor.specs.Cells.{HadOrPends, total}
 use Rattle.cd_core.proofs.turn.deliver_until_new.Goals as goal
 
 pub returns-then-contexts-contexts_before-clause-keeps :
@@ -16,6 +16,20 @@ pub returns-then-contexts-contexts_before-clause-family :
     goal.returns-then-contexts-contexts_before-clause-family
 returns-then-contexts-contexts_before-clause-family g c f of =
     c.in_ok-deliver_to.ensures.family f (c.turns.invariant.family f of)
+
+pub returns-then-contexts-contexts_before-clause-turn :
+    goal.returns-then-contexts-contexts_before-clause-turn
+returns-then-contexts-contexts_before-clause-turn g c = λ _.
+    let i = c.turns.invariant in
+    record {
+      before = c.turns.cells.items;
+      message = (c.in-Some.cell, c.in-Some.message);
+      out = _;
+      had = i.had;
+      few_contexts = let e : c.turns.contexts ≡ total g.A.Actor.meaning.contexts c.turns.cells.items = i.contexts in omega arith;
+      few_facts = let e : c.turns.facts ≡ total g.A.Actor.meaning.facts c.turns.cells.items = i.facts in omega arith;
+      turn = c.in_ok-deliver_to.ensures.turn;
+    }
 
 pub turns-preserved : goal.turns-preserved
 turns-preserved g c = record {

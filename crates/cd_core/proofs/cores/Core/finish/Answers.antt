@@ -1,7 +1,7 @@
-use Rattle.std.proofs.Common.{subst, sym, arith}
+use Rattle.std.proofs.Common.{◌≡◌, ◌⊎◌, inr, subst, sym, arith}
 use Rattle.cd_actor.specs.Cells.{AreOf, Had}
-use Rattle.cd_core.specs.Ends.{IsEnd}
-use Rattle.cd_core.proofs.Turns.{run_end}
+use Rattle.cd_core.specs.Ends.{IsEnd, IsOneDeliveryPast}
+use Rattle.cd_core.proofs.Turns.{run_end, past_more}
 use Rattle.cd_core.proofs.cores.Core.finish.Goals as goal
 
 pub rounds-preserved : goal.rounds-preserved
@@ -12,6 +12,7 @@ rounds-preserved g c = record {
   family = λ f of. c.in-Ok-true.ensures.family f (c.rounds.invariant.family f of);
   contexts = c.in-Ok-true.ensures.contexts;
   facts = c.in-Ok-true.ensures.facts;
+  at_once = inr (past_more g.A.Actor.meaning _ c.rounds.cells.items _ _ c.args.limits.now.max_contexts c.args.limits.now.max_facts _ c.rounds.invariant.had (omega arith) (omega arith) (c.in-Ok-true.ensures.turn c.in-Ok-true.field-0-test));
 }
 
 pub returns-in-Ok-false-clause-ok : goal.returns-in-Ok-false-clause-ok
@@ -37,3 +38,14 @@ returns-then-facts-max_facts-clause-stop g c =
     let i = c.rounds.invariant in
     let e = c.self.view_is in
     (i.runs.cells_ok, λ x h. i.had x (subst (λ v. Had m v.0 x) (sym e) h), λ f of. i.family f (subst (λ v. AreOf m f v.0) (sym e) of), i.facts, omega arith, omega arith)
+
+pub returns-then-contexts-max_contexts-clause-at_once :
+    goal.returns-then-contexts-max_contexts-clause-at_once
+returns-then-contexts-max_contexts-clause-at_once g c =
+    let cells = c.rounds.cells.items in
+    subst (λ v. (cells ≡ v.0) ⊎ IsOneDeliveryPast g.A.Actor.meaning v.0 c.args.limits.now.max_contexts c.args.limits.now.max_facts cells) c.self.view_is c.rounds.invariant.at_once
+
+pub returns-then-facts-max_facts-clause-at_once : goal.returns-then-facts-max_facts-clause-at_once
+returns-then-facts-max_facts-clause-at_once g c =
+    let cells = c.rounds.cells.items in
+    subst (λ v. (cells ≡ v.0) ⊎ IsOneDeliveryPast g.A.Actor.meaning v.0 c.args.limits.now.max_contexts c.args.limits.now.max_facts cells) c.self.view_is c.rounds.invariant.at_once
