@@ -14,7 +14,7 @@ use Rattle.cd_grammar.specs.declared.symbol.Symbol.TheVariants.{Inside}
 use Rattle.cd_grammar.specs.declared.words.AxiomForm.{AxiomForm}
 use Rattle.cd_grammar.specs.declared.words.Form.{Form}
 use Rattle.cd_grammar.specs.Causes.{wants_role_next, wants_role, is_prefix_iri}
-use Rattle.cd_grammar.specs.Grammar.{Wanted, PrefixIri, RoleOf, ClosingOf, AxiomIn, ExprOf, Line, Leads, IsNoted, IsBuilt, head_of, operands}
+use Rattle.cd_grammar.proofs.ItemGrammar.{Wanted, PrefixIri, RoleOf, ClosingOf, AxiomIn, ExprOf, Line, Leads, IsNoted, IsBuilt, head_of, operands}
 use Rattle.cd_grammar.specs.Operands.{heads_of, has_more_heads, wants_head, has_class_head, axiom_of, made_of}
 use Rattle.cd_grammar.specs.Machine.{bare}
 use Rattle.cd_grammar.proofs.Counts.{IsCount, counts}

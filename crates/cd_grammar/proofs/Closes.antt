@@ -11,7 +11,8 @@ use Rattle.cd_grammar.specs.declared.symbol.Symbol.{Symbol}
 use Rattle.cd_grammar.specs.declared.symbol.Symbol.TheVariants.{Opening, Closing, Equals, End, Iri, Class, Document, Binding, VersionIri, QuotedEnd, Inside}
 use Rattle.cd_grammar.specs.declared.words.Form.{Form}
 use Rattle.cd_grammar.specs.declared.words.Key.{Key}
-use Rattle.cd_grammar.specs.Grammar.{Wanted, Exact, AnyIri, ClassOf, Text, Stands, Leads, opened, with_class, with_prefix}
+use Rattle.cd_grammar.specs.Grammar.{with_class, with_prefix}
+use Rattle.cd_grammar.proofs.ItemGrammar.{Wanted, Exact, AnyIri, ClassOf, Text, Stands, Leads, opened}
 use Rattle.cd_grammar.specs.Machine.{bare}
 use Rattle.cd_grammar.proofs.SoundOperands.{axiom_line}
 use Rattle.cd_grammar.proofs.Fills.{Wants, Fills}
@@ -115,11 +116,11 @@ passes most known Symbol.Value = (Wanted.Value ∷ Exact Item.Closing ∷ [], an
 passes most known QuotedEnd = (Exact Item.Closing ∷ [], Item.Closing ∷ [], known, (inl refl, refl), Leads.one (refl, refl) Leads.here)
 passes most known (Symbol.AxiomIn form) =
     let (first, handed, items, after, completes, size, leads) = finishes most known (bare (Form.Axiom form) most) [] (pending_bare (Form.Axiom form)) in
-    let (a, none, l) = axiom_line form most first handed completes in (
+    let (a, none, l, made) = axiom_line form most first handed completes in (
       Wanted.AxiomIn form a ∷ [],
       items,
       after,
-      ((a, refl), refl),
+      ((a, made, refl), refl),
       Leads.line first l (subst (λ (wanted : List Wanted). Leads most known wanted items after []) (sym (append-nil first)) leads),
     )
 passes most known (Inside frame) = tt

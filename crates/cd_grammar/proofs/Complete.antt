@@ -15,7 +15,8 @@ use Rattle.cd_grammar.specs.declared.symbol.Symbol.TheVariants.{Opening, Closing
 use Rattle.cd_grammar.specs.declared.words.AxiomForm.{AxiomForm}
 use Rattle.cd_grammar.specs.declared.words.Form.{Form}
 use Rattle.cd_grammar.specs.declared.words.Key.{Key}
-use Rattle.cd_grammar.specs.Grammar.{Wanted, Exact, ClosingOf, Text, with_prefix, IsAnyIri, operands, Leads}
+use Rattle.cd_grammar.specs.Grammar.{with_prefix}
+use Rattle.cd_grammar.proofs.ItemGrammar.{Wanted, Exact, ClosingOf, Text, IsAnyIri, operands, Leads, IsMade}
 use Rattle.cd_grammar.specs.Machine.{State, iri_of, taken_if, by_iri, is_subject, class_taken, bound, bare, inside_taken, axioms_taken, notes_taken, ontology_iri_taken, advance}
 use Rattle.cd_grammar.proofs.CompleteOperands.{inside_complete}
 use Rattle.cd_grammar.proofs.Derivation.{iri_of-means, by_iri-means, is_subject-of, iri_first, subject_first, class_first, prefix_first, lined, Goes, goes_on, by_exact, by_word, by_note}
@@ -39,9 +40,9 @@ module _ (most : ℕ) (items : List Item) (known' : Known) (wanted' : List Wante
   axioms_complete known item stack rest fills (Leads.line parts (inl is) r) =
       by_word (λ (t : Item). axioms_taken known t stack) rest (Symbol.DeclarationIn ∷ Symbol.Axioms ∷ stack) is r refl
       (_, _, _, (refl, refl), refl, (_, _, _, (refl, refl), refl, fills))
-  axioms_complete known item stack rest fills (Leads.line parts (inr (inl (form, a, is))) r) =
+  axioms_complete known item stack rest fills (Leads.line parts (inr (inl (form, a, made, is))) r) =
       by_word (λ (t : Item). axioms_taken known t stack) rest (Symbol.AxiomIn form ∷ Symbol.Axioms ∷ stack) is r refl
-      (_, _, _, ((a, refl), refl), refl, (_, _, _, (refl, refl), refl, fills))
+      (_, _, _, ((a, made, refl), refl), refl, (_, _, _, (refl, refl), refl, fills))
   axioms_complete known item stack rest fills (Leads.line parts (inr (inr (inl is))) r) =
       by_word (λ (t : Item). axioms_taken known t stack) rest (Symbol.AssertionIn ∷ Symbol.Axioms ∷ stack) is r refl
       (_, _, _, (refl, refl), refl, (_, _, _, (refl, refl), refl, fills))
@@ -208,13 +209,13 @@ module _ (most : ℕ) (items : List Item) (known' : Known) (wanted' : List Wante
   axiom_other known form item stack goes = goes
 
   -- an axiom behind its parenthesis
-  axiom_complete : (known : Known) (form : AxiomForm) (a : Axiom) (item : Item) (stack : List Symbol) (rest : List Wanted) → Fills [] stack rest
+  axiom_complete : (known : Known) (form : AxiomForm) (a : Axiom) → IsMade form a → (item : Item) (stack : List Symbol) (rest : List Wanted) → Fills [] stack rest
       → From known (Wanted.AxiomIn form a ∷ rest) item → Then (advance most known (Symbol.AxiomIn form) item stack)
-  axiom_complete known form a item stack rest fills (Leads.one st r) = absurd st
-  axiom_complete known form a item stack rest fills (Leads.line parts (inl l) r) =
+  axiom_complete known form a made item stack rest fills (Leads.one st r) = absurd st
+  axiom_complete known form a made item stack rest fills (Leads.line parts (inl l) r) =
       by_note (λ (t : Item). advance most known (Symbol.AxiomIn form) t stack) most (Symbol.AxiomIn form)
-      (Wanted.AxiomIn form a) parts rest stack l r refl ((a, refl), refl) fills
-  axiom_complete known form a item stack rest fills (Leads.line parts (inr (heads, inner, makes, is)) r) =
+      (Wanted.AxiomIn form a) parts rest stack l r refl ((a, made, refl), refl) fills
+  axiom_complete known form a made item stack rest fills (Leads.line parts (inr (heads, inner, makes, is)) r) =
       let all : Completes (bare (Form.Axiom form) most) [] (operands (Form.Axiom form) most heads inner ++ ClosingOf a ∷ []) [] = record {
         heads = heads;
         parts = inner;
@@ -310,8 +311,8 @@ module _ (most : ℕ) (items : List Item) (known' : Known) (wanted' : List Wante
   symbol_complete known QuotedEnd item stack first handed rest (inr (inr is), none) fills r =
       by_exact (λ (t : Item). advance most known QuotedEnd t stack) (Iri ∷ Closing ∷ stack)
       (lined rest is r) refl (_, _, _, (refl, refl), refl, (_, _, _, (refl, refl), refl, none_handed handed stack rest none fills))
-  symbol_complete known (Symbol.AxiomIn form) item stack first handed rest ((a, is), none) fills r =
-      axiom_complete known form a item stack rest (none_handed handed stack rest none fills) (lined rest is r)
+  symbol_complete known (Symbol.AxiomIn form) item stack first handed rest ((a, made, is), none) fills r =
+      axiom_complete known form a made item stack rest (none_handed handed stack rest none fills) (lined rest is r)
   symbol_complete known (Inside frame) item stack first handed rest c fills r = inside_complete frame first handed item stack rest c fills r
 
 -- there is a state

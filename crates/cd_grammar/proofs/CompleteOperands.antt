@@ -13,7 +13,8 @@ use Rattle.cd_grammar.specs.declared.symbol.Frame.{Frame}
 use Rattle.cd_grammar.specs.declared.symbol.Symbol.{Symbol}
 use Rattle.cd_grammar.specs.declared.symbol.Symbol.TheVariants.{Inside}
 use Rattle.cd_grammar.specs.declared.words.Form.{Form}
-use Rattle.cd_grammar.specs.Grammar.{Wanted, Exact, ClassOf, RoleOf, ExprOf, with_role, Means, head_of, operands, IsBuilt, Leads}
+use Rattle.cd_grammar.specs.Grammar.{with_role}
+use Rattle.cd_grammar.proofs.ItemGrammar.{Wanted, Exact, ClassOf, RoleOf, ExprOf, Means, head_of, operands, IsBuilt, Leads}
 use Rattle.cd_grammar.specs.Machine.{State, taken_if, bare, with_head, with_part, wants_head_next, wants_part_next, given, closed, deeper, head_taken, part_taken, operand_taken, inside_taken}
 use Rattle.cd_grammar.specs.Operands.{has_class_head, wants_head, made_of}
 use Rattle.cd_grammar.proofs.Counts.{IsCount, counts, wants_head-next, wants_head-none, wants_part-next}

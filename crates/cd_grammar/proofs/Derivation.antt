@@ -10,7 +10,8 @@ use Rattle.cd_grammar.specs.declared.known.Known.{Known}
 use Rattle.cd_grammar.specs.declared.symbol.Symbol.{Symbol}
 use Rattle.cd_grammar.specs.declared.symbol.Symbol.TheVariants.{Opening}
 use Rattle.cd_grammar.specs.declared.words.Key.{Key}
-use Rattle.cd_grammar.specs.Grammar.{Wanted, Exact, AnyIri, Subject, PrefixIri, ClassOf, RoleOf, with_prefix, with_class, with_role, top_role, bottom_role, Means, IsAnyIri, IsNode, Leads, opened, IsNoted}
+use Rattle.cd_grammar.specs.Grammar.{with_prefix, with_class, with_role, top_role, bottom_role}
+use Rattle.cd_grammar.proofs.ItemGrammar.{Wanted, Exact, AnyIri, Subject, PrefixIri, ClassOf, RoleOf, Means, IsAnyIri, IsNode, Leads, opened, IsNoted}
 use Rattle.cd_grammar.specs.Machine.{State, iri_of, by_iri, is_subject, noted}
 use Rattle.cd_grammar.proofs.Fills.{Wants, Fills}
 

@@ -9,7 +9,7 @@ use Rattle.cd_grammar.specs.declared.operands.Made.{Made}
 use Rattle.cd_grammar.specs.declared.symbol.Frame.{Frame}
 use Rattle.cd_grammar.specs.declared.symbol.Symbol.{Symbol}
 use Rattle.cd_grammar.specs.declared.symbol.Symbol.TheVariants.{Opening, Closing, Equals, End, Iri, Class, Document, Binding, VersionIri, QuotedEnd, Inside}
-use Rattle.cd_grammar.specs.Grammar.{Wanted, Exact, AnyIri, ClassOf, ClosingOf, Text, operands}
+use Rattle.cd_grammar.proofs.ItemGrammar.{Wanted, Exact, AnyIri, ClassOf, ClosingOf, Text, IsMade, operands}
 use Rattle.cd_grammar.specs.Operands.{made_of}
 
 -- what ends operands, and what is handed to those below
@@ -58,7 +58,7 @@ Wants Symbol.Value [] wanted handed = (wanted ≡ Wanted.Value ∷ Exact Item.Cl
 Wants QuotedEnd [] wanted handed =
     ((wanted ≡ Exact Item.Closing ∷ []) ⊎ (wanted ≡ Exact Item.Lang ∷ Exact Item.Closing ∷ [])
     ⊎ (wanted ≡ Exact Item.Carets ∷ AnyIri ∷ Exact Item.Closing ∷ [])) × (handed ≡ [])
-Wants (Symbol.AxiomIn form) [] wanted handed = ((a : Axiom) × (wanted ≡ Wanted.AxiomIn form a ∷ [])) × (handed ≡ [])
+Wants (Symbol.AxiomIn form) [] wanted handed = ((a : Axiom) × IsMade form a × (wanted ≡ Wanted.AxiomIn form a ∷ [])) × (handed ≡ [])
 
 -- the stack, to whose first symbol these expressions were handed, may want this
 abbrev pub Fills : List Expr → List Symbol → List Wanted → Type 0

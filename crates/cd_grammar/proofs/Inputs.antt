@@ -9,8 +9,8 @@ use Rattle.cd_grammar.specs.declared.input.ReadRefusal.{ReadRefusal}
 use Rattle.cd_grammar.specs.declared.input.ReadRefusal.TheVariants.{Refused}
 use Rattle.cd_grammar.specs.declared.refusal.Refusal.{Refusal}
 use Rattle.cd_grammar.specs.declared.refusal.Refusal.TheVariants.{TooLong}
-use Rattle.cd_grammar.specs.Causes.{refusal_at}
-use Rattle.cd_grammar.specs.Reading.{IsFinished, IsRefused, IsFaulty, IsUnread}
+use Rattle.cd_grammar.specs.Reading.{IsFinished}
+use Rattle.cd_grammar.specs.Refusal.{refusal_at, IsRefused, IsFaulty, IsUnread}
 
 -- where nothing is left, these bytes were all
 pub whole : (left later : Option (List ℕ)) (fed : List ℕ) → Consumes left later fed → IsAtEnd later → IfSome left (λ input. (fed ≡ input) × (later ≡ Some []))
@@ -33,7 +33,7 @@ never_long Depth place n h = cc
 never_long Syntax place n h = cc
 
 refused_in : (input : List ℕ) (most : ℕ) (refusal : Refusal) → length input ≤ most → IsFaulty input refusal → IsUnread input → IsRefused input most refusal
-refused_in input most (TooLong n) short faulty unread = absurd (never_long faulty.4 _ n faulty.6)
+refused_in input most (TooLong n) short faulty unread = absurd (never_long faulty.3 _ n faulty.4.told)
 refused_in input most refusal short faulty unread = (short, faulty, unread)
 
 -- what holds of every input holds of one that is told

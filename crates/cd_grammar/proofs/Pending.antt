@@ -15,7 +15,8 @@ use Rattle.cd_grammar.specs.declared.words.AxiomForm.{AxiomForm}
 use Rattle.cd_grammar.specs.declared.words.AxiomForm.TheVariants.{SubClassOf, EquivalentClasses, DisjointClasses, SubObjectPropertyOf, EquivalentObjectProperties, ObjectPropertyDomain, ObjectPropertyRange}
 use Rattle.cd_grammar.specs.declared.words.ExprForm.TheVariants.{ObjectIntersectionOf, ObjectUnionOf, ObjectComplementOf, ObjectSomeValuesFrom, ObjectAllValuesFrom}
 use Rattle.cd_grammar.specs.declared.words.Form.{Form}
-use Rattle.cd_grammar.specs.Grammar.{Wanted, ClassOf, RoleOf, ExprOf, Leads, head_of, operands, with_axiom, with_class, with_role}
+use Rattle.cd_grammar.specs.Grammar.{with_axiom, with_class, with_role}
+use Rattle.cd_grammar.proofs.ItemGrammar.{Wanted, ClassOf, RoleOf, ExprOf, Leads, head_of, operands}
 use Rattle.cd_grammar.specs.Operands.{heads_of, has_more_heads, parts_of, has_more_parts, has_class_head, made_of}
 use Rattle.cd_grammar.proofs.Fills.{Completes, last_of, handed_by}
 

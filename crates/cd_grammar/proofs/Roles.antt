@@ -9,7 +9,8 @@ use Rattle.cd_grammar.specs.declared.symbol.Symbol.TheVariants.{Inside}
 use Rattle.cd_grammar.specs.declared.words.AxiomForm.{AxiomForm}
 use Rattle.cd_grammar.specs.declared.words.Form.{Form}
 use Rattle.cd_grammar.specs.Causes.{wants_role_next}
-use Rattle.cd_grammar.specs.Grammar.{Wanted, RoleOf, AxiomIn, Leads, head_of, nesting}
+use Rattle.cd_grammar.specs.Grammar.{nesting}
+use Rattle.cd_grammar.proofs.ItemGrammar.{Wanted, RoleOf, AxiomIn, Leads, head_of}
 use Rattle.cd_grammar.specs.Machine.{bare, with_head, wants_head_next}
 use Rattle.cd_grammar.specs.Operands.{has_class_head}
 use Rattle.cd_grammar.proofs.Begins.{role_at}
@@ -44,9 +45,9 @@ axiom_role : (known : Known) (form : AxiomForm) (stack : List Symbol) → wants_
     → WantsRole known (Symbol.AxiomIn form ∷ stack)
 axiom_role known form stack wants closable =
     let (first, handed, completes, many) = may_go_on known (bare (Form.Axiom form) nesting) wants in
-    let (a, none, l) = axiom_line form nesting (RoleOf 0 ∷ first) handed completes in
+    let (a, none, l, made) = axiom_line form nesting (RoleOf 0 ∷ first) handed completes in
     let (rest, items, known', fills, leads) = closes nesting stack [] closable known in
-    (AxiomIn form a ∷ rest, (AxiomIn form a ∷ [], [], rest, ((a, refl), refl), refl, fills), first ++ rest, Leads.line (RoleOf 0 ∷ first) l Leads.here)
+    (AxiomIn form a ∷ rest, (AxiomIn form a ∷ [], [], rest, ((a, made, refl), refl), refl, fills), first ++ rest, Leads.line (RoleOf 0 ∷ first) l Leads.here)
 
 -- operands behind which a role may stand
 inside_role : (known : Known) (frame : Frame) (stack : List Symbol) → wants_role_next frame ≡ true → IsClosable (handed_on frame.form) stack

@@ -5,8 +5,9 @@ use Rattle.cd_grammar.specs.declared.item.Item.{Item}
 use Rattle.cd_grammar.specs.declared.known.Known.{Known}
 use Rattle.cd_grammar.specs.declared.symbol.Symbol.{Symbol}
 use Rattle.cd_grammar.specs.declared.symbol.Symbol.TheVariants.{Document}
-use Rattle.cd_grammar.specs.Fault.{IsFront, IsBehind}
-use Rattle.cd_grammar.specs.Grammar.{Wanted, Text, Leads, begun, nesting}
+use Rattle.cd_grammar.proofs.ItemFault.{IsFront, IsBehind}
+use Rattle.cd_grammar.specs.Grammar.{begun, nesting}
+use Rattle.cd_grammar.proofs.ItemGrammar.{Wanted, Text, Leads}
 use Rattle.cd_grammar.specs.Machine.{State, step, after, start}
 use Rattle.cd_grammar.proofs.Sound.{sound}
 use Rattle.cd_grammar.proofs.Takes.{reaches}

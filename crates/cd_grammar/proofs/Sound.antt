@@ -13,7 +13,8 @@ use Rattle.cd_grammar.specs.declared.symbol.Symbol.TheVariants.{Opening, Closing
 use Rattle.cd_grammar.specs.declared.words.AxiomForm.{AxiomForm}
 use Rattle.cd_grammar.specs.declared.words.Form.{Form}
 use Rattle.cd_grammar.specs.declared.words.Key.{Key}
-use Rattle.cd_grammar.specs.Grammar.{Wanted, Exact, AnyIri, ClassOf, Text, IsAnyIri, IsNoted, Line, Leads, opened, with_class, with_prefix}
+use Rattle.cd_grammar.specs.Grammar.{with_class, with_prefix}
+use Rattle.cd_grammar.proofs.ItemGrammar.{Wanted, Exact, AnyIri, ClassOf, Text, IsAnyIri, IsNoted, Line, Leads, opened}
 use Rattle.cd_grammar.specs.Machine.{State, iri_of, is_subject, class_taken, bound, noted, bare, axioms_taken, notes_taken, ontology_iri_taken, inside_taken, advance}
 use Rattle.cd_grammar.proofs.Fills.{Wants, Fills}
 use Rattle.cd_grammar.proofs.Items.{means, subject}
@@ -51,8 +52,8 @@ module _ (most : ℕ) (known : Known) where
       (Leads.line (opened Key.Declaration (Wanted.DeclarationIn ∷ Wanted.Axioms ∷ [])) (inl refl) (Leads.one (refl, refl) r)))
   axioms_sound s (Word (Key.Axiom form)) stack begins =
       pushed_sound most known s (Word (Key.Axiom form)) stack known (Opening ∷ Symbol.AxiomIn form ∷ Symbol.Axioms ∷ [])
-      (λ a rest known' wanted' items r. begins rest known' wanted' (Word (Key.Axiom form) ∷ items)
-      (Leads.line (opened (Key.Axiom form) (Wanted.AxiomIn form a ∷ Wanted.Axioms ∷ [])) (inr (inl (form, a, refl))) (Leads.one (refl, refl) r)))
+      (λ a made rest known' wanted' items r. begins rest known' wanted' (Word (Key.Axiom form) ∷ items)
+      (Leads.line (opened (Key.Axiom form) (Wanted.AxiomIn form a ∷ Wanted.Axioms ∷ [])) (inr (inl (form, a, made, refl))) (Leads.one (refl, refl) r)))
   axioms_sound s (Word Key.AnnotationAssertion) stack begins =
       pushed_sound most known s (Word Key.AnnotationAssertion) stack known (Opening ∷ Symbol.AssertionIn ∷ Symbol.Axioms ∷ [])
       (λ rest known' wanted' items r. begins rest known' wanted' (Word Key.AnnotationAssertion ∷ items)
@@ -176,8 +177,8 @@ module _ (most : ℕ) (known : Known) where
   -- an item in an axiom, before its operands
   axiom_in_sound : (form : AxiomForm) (item : Item) (stack : List Symbol) → IsSoundStep most known (Symbol.AxiomIn form) item stack (advance most known (Symbol.AxiomIn form) item stack)
   axiom_in_sound form (Word Key.Annotation) stack = noted_sound (Symbol.AxiomIn form) (Symbol.AxiomIn form) stack most
-      (λ m at a rest known' wanted' items r.
-      (Wanted.AxiomIn form a ∷ [], ((a, refl), refl), annotated (Wanted.AxiomIn form a) most m at (λ parts l. inl l) rest known' wanted' items r))
+      (λ m at a made rest known' wanted' items r.
+      (Wanted.AxiomIn form a ∷ [], ((a, made, refl), refl), annotated (Wanted.AxiomIn form a) most m at (λ parts l. inl l) rest known' wanted' items r))
   axiom_in_sound form item stack =
       axiom_sound most known form item stack (inside_taken known (bare (Form.Axiom form) most) item stack) (inside_sound most known (bare (Form.Axiom form) most) item stack)
 

@@ -8,7 +8,7 @@ use Rattle.cd_grammar.specs.declared.item.Item.TheVariants.{Short}
 use Rattle.cd_grammar.specs.declared.known.Known.{Known}
 use Rattle.cd_grammar.specs.declared.symbol.Symbol.{Symbol}
 use Rattle.cd_grammar.specs.declared.symbol.Symbol.TheVariants.{Opening, Closing, Equals, End, Iri, Class, Document, Binding, VersionIri, QuotedEnd, Inside}
-use Rattle.cd_grammar.specs.Grammar.{Wanted, Exact, AnyIri, ClassOf, Text, IsAnyIri, Leads}
+use Rattle.cd_grammar.proofs.ItemGrammar.{Wanted, Exact, AnyIri, ClassOf, Text, IsAnyIri, IsMade, Leads}
 use Rattle.cd_grammar.specs.Machine.{State, iri_of, taken_if, by_iri}
 use Rattle.cd_grammar.proofs.Fills.{Wants, Fills}
 use Rattle.cd_grammar.proofs.Items.{any_iri}
@@ -41,14 +41,14 @@ ForWanted Symbol.AnnotationAxiomIn P = P (Wanted.AnnotationAxiomIn ∷ [])
 ForWanted (Symbol.NoteIn n) P = P (Wanted.NoteIn n ∷ [])
 ForWanted Symbol.Value P = P (Wanted.Value ∷ Exact Item.Closing ∷ [])
 ForWanted QuotedEnd P = P (Exact Item.Closing ∷ []) × P (Exact Item.Lang ∷ Exact Item.Closing ∷ []) × P (Exact Item.Carets ∷ AnyIri ∷ Exact Item.Closing ∷ [])
-ForWanted (Symbol.AxiomIn form) P = (a : Axiom) → P (Wanted.AxiomIn form a ∷ [])
+ForWanted (Symbol.AxiomIn form) P = (a : Axiom) → IsMade form a → P (Wanted.AxiomIn form a ∷ [])
 ForWanted (Inside frame) P = ⊥
 
 -- what the symbol wants is such, and nothing is handed on
 for_wanted : (s : Symbol) (P : List Wanted → Type 0) → ForWanted s P → (wanted : List Wanted) (handed : List Expr) → Wants s [] wanted handed → P wanted × (handed ≡ [])
 for_wanted Class P h wanted handed w = (subst P (sym w.0.1) (h w.0.0), w.1)
 for_wanted Binding P h wanted handed w = (subst P (sym w.0.1) (h w.0.0), w.1)
-for_wanted (Symbol.AxiomIn form) P h wanted handed w = (subst P (sym w.0.1) (h w.0.0), w.1)
+for_wanted (Symbol.AxiomIn form) P h wanted handed w = (subst P (sym w.0.2) (h w.0.0 w.0.1), w.1)
 for_wanted VersionIri P h wanted handed w = (elim w.0 [ inl e ↦ subst P (sym e) h.0 | inr e ↦ subst P (sym e) h.1 ], w.1)
 for_wanted QuotedEnd P h wanted handed w =
     (elim w.0 [ inl e ↦ subst P (sym e) h.0 | inr f ↦ elim f [ inl e ↦ subst P (sym e) h.1 | inr e ↦ subst P (sym e) h.2 ] ], w.1)

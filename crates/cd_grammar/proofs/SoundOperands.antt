@@ -18,7 +18,8 @@ use Rattle.cd_grammar.specs.declared.words.AxiomForm.{AxiomForm}
 use Rattle.cd_grammar.specs.declared.words.ExprForm.{ExprForm}
 use Rattle.cd_grammar.specs.declared.words.Form.{Form}
 use Rattle.cd_grammar.specs.declared.words.Key.{Key}
-use Rattle.cd_grammar.specs.Grammar.{Wanted, Exact, ClassOf, RoleOf, ClosingOf, ExprOf, Means, Leads, with_class, with_role, head_of, operands, opened, IsBuilt, Line}
+use Rattle.cd_grammar.specs.Grammar.{with_class, with_role}
+use Rattle.cd_grammar.proofs.ItemGrammar.{Wanted, Exact, ClassOf, RoleOf, ClosingOf, ExprOf, Means, Leads, head_of, operands, opened, IsBuilt, Line, IsMade}
 use Rattle.cd_grammar.specs.Machine.{State, iri_of, bare, with_head, with_part, wants_head_next, wants_part_next, is_role, given, closed, deeper, head_taken, part_taken, operand_taken, inside_taken}
 use Rattle.cd_grammar.specs.Operands.{axiom_of, expression_of, made_of, has_class_head}
 use Rattle.cd_grammar.proofs.Fills.{last_of, handed_by, Completes, Fills}
@@ -112,11 +113,11 @@ made_axiom made (Some a) h = (a, refl, cc)
 
 -- all the operands of an axiom are a line of it, and nothing is handed on
 pub axiom_line : (form : AxiomForm) (most : ℕ) (wanted : List Wanted) (handed : List Expr) → Completes (bare (Form.Axiom form) most) [] wanted handed
-    → (a : Axiom) × (handed ≡ []) × Line most (Wanted.AxiomIn form a) wanted
+    → (a : Axiom) × (handed ≡ []) × Line most (Wanted.AxiomIn form a) wanted × IsMade form a
 axiom_line form most wanted handed c =
     let made = made_axiom c.made (axiom_of form c.heads c.parts) c.makes in
     let written = c.wants ∙ ap (λ (m : Made). operands (Form.Axiom form) most c.heads c.parts ++ last_of m ∷ []) made.2 in
-    (made.0, c.hands ∙ ap handed_by made.2, inr (c.heads, c.parts, made.1, written))
+    (made.0, c.hands ∙ ap handed_by made.2, inr (c.heads, c.parts, made.1, written), (c.heads, c.parts, made.1))
 
 -- ---- the items
 
@@ -223,6 +224,6 @@ module _ (most : ℕ) (known : Known) where
       let g = whole.1 in
       let line = axiom_line form most g.0 g.1 g.3 in (
         Wanted.AxiomIn form line.0 ∷ g.2,
-        (Wanted.AxiomIn form line.0 ∷ [], [], g.2, ((line.0, refl), refl), refl, subst (λ (given : List Expr). Fills given stack g.2) line.1 g.5),
+        (Wanted.AxiomIn form line.0 ∷ [], [], g.2, ((line.0, line.3, refl), refl), refl, subst (λ (given : List Expr). Fills given stack g.2) line.1 g.5),
         Leads.line g.0 line.2 (subst (λ (x : List Wanted). Leads most known x (item ∷ items) known' wanted') g.4 whole.2),
       )

@@ -6,7 +6,8 @@ use Rattle.cd_grammar.specs.declared.item.Item.{Item}
 use Rattle.cd_grammar.specs.declared.known.Known.{Known}
 use Rattle.cd_grammar.specs.declared.symbol.Symbol.{Symbol}
 use Rattle.cd_grammar.specs.declared.symbol.Symbol.TheVariants.{Class, Document, Binding, Inside}
-use Rattle.cd_grammar.specs.Grammar.{Wanted, Text, AxiomIn, ExprOf, IsNoted, Line, Leads, nesting, begun, IsWhole}
+use Rattle.cd_grammar.specs.Grammar.{nesting, begun}
+use Rattle.cd_grammar.proofs.ItemGrammar.{Wanted, Text, AxiomIn, ExprOf, IsNoted, Line, Leads, IsWhole}
 use Rattle.cd_grammar.specs.Machine.{State, after, start}
 use Rattle.cd_grammar.proofs.Complete.{complete}
 use Rattle.cd_grammar.proofs.Fills.{Wants, Fills}
@@ -53,7 +54,7 @@ ended {most} (Leads.line {w} {wanted} parts l r) = absurd (line_remains most w p
 no_want : (symbol : Symbol) (handed : List Expr) → Wants symbol [] [] handed → ⊥
 no_want Class handed ((c, is), none) = cc
 no_want Binding handed ((p, is), none) = cc
-no_want (Symbol.AxiomIn form) handed ((a, is), none) = cc
+no_want (Symbol.AxiomIn form) handed ((a, made, is), none) = cc
 no_want (Inside frame) handed c = one_more _ _ c.wants
 no_want symbol handed wants = grind arith
 

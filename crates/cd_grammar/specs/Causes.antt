@@ -16,6 +16,7 @@ use Rattle.cd_grammar.specs.declared.words.Key.{Key}
 use Rattle.cd_grammar.specs.Grammar.{top_role, bottom_role, nesting}
 use Rattle.cd_grammar.specs.Items.{PlacedItem}
 use Rattle.cd_grammar.specs.Operands.{has_class_head}
+use Rattle.cd_grammar.specs.Refusal.{refusal_at}
 use Rattle.cd_grammar.specs.Machine.{State, iri_of, bare, wants_head_next, wants_part_next, step}
 
 -- behind these operands a role may stand
@@ -77,12 +78,6 @@ cause_of known (symbol ∷ stack) item =
     first_of_causes (refused known item (wants_role symbol)) (is_unknown known item) (is_prefix_iri symbol item) (is_over symbol item)
 
 -- ---- a machine that keeps the cause
-
-abbrev pub refusal_at : Cause → ℕ → Refusal
-refusal_at (Construct number) place = Refusal.Construct number place
-refusal_at Prefix place = Refusal.Prefix place
-refusal_at Depth place = Refusal.Depth place
-refusal_at Syntax place = Refusal.Syntax place
 
 -- what a parser knows and wants, or why it stopped
 pub data Standing : Type 0 where

@@ -1,58 +1,74 @@
 -- The first fault of a text that is no accepted document, and its cause.
-use Rattle.std.specs.Prelude.{◌≡◌, ◌≢◌, ◌⊎◌, ℕ, suc, ◌<◌, List, [], ◌∷◌, ◌++◌, length, take, slice_index_or, Some, None}
+use Rattle.std.specs.Prelude.{◌≡◌, ◌≢◌, ◌⊎◌, ℕ, suc, List, [], ◌∷◌, ◌++◌, Some, None}
 use Rattle.cd_names.specs.Prefixes.{meaning}
+use Rattle.cd_lex.specs.declared.token.Kind.{Kind}
+use Rattle.cd_lex.specs.declared.token.Kind.TheVariants.{Word, Short, FullIri}
+use Rattle.cd_lex.specs.Tokens.{Lexeme, BeginsWith, IsBad}
 use Rattle.cd_grammar.specs.declared.cause.Cause.{Cause}
 use Rattle.cd_grammar.specs.declared.cause.Cause.TheVariants.{Construct, Prefix, Depth, Syntax}
-use Rattle.cd_grammar.specs.declared.item.Item.{Item}
-use Rattle.cd_grammar.specs.declared.item.Item.TheVariants.{Word, Short, FullIri}
 use Rattle.cd_grammar.specs.declared.known.Known.{Known}
-use Rattle.cd_grammar.specs.declared.words.Key.{Key}
+use Rattle.cd_grammar.specs.Constructs.{refused_number}
 use Rattle.cd_grammar.specs.Grammar.{Wanted, PrefixIri, RoleOf, Text, Means, Leads, begun, nesting, top_role, bottom_role}
 
--- the items are the front of those of a document, with so much nesting
-abbrev pub IsFront : ℕ → List Item → Type 0
-IsFront most front = (more : List Item) × (known : Known) × Leads most begun (Text ∷ []) (front ++ more) known []
+-- what stands behind some tokens of a text: a token, the end of the text, or a byte at which no token begins
+pub data Next : Type 0 where
+  Token : Kind → Next
+  End : Next
+  Bad : Next
 
--- item n is the first at which no document begins so
-abbrev pub IsFirstFault : List Item → ℕ → Type 0
-IsFirstFault items n = (n < length items) × IsFront nesting (take n items) × (IsFront nesting (take (suc n) items) → ⊥)
+-- the bytes begin so
+abbrev pub IsNext : List ℕ → Next → Type 0
+IsNext bytes (Token kind) = (rest : List ℕ) × BeginsWith bytes (Lexeme kind) rest
+IsNext bytes End = bytes ≡ []
+IsNext bytes Bad = IsBad bytes
+
+-- the tokens are the front of those of a document, with so much nesting
+abbrev pub IsFront : ℕ → List Kind → Type 0
+IsFront most front = (more : List Kind) × (known : Known) × Leads most begun (Text ∷ []) (front ++ more) known []
+
+-- with so much nesting, some document has this behind the front
+abbrev pub GoesOn : ℕ → List Kind → Next → Type 0
+GoesOn most front (Token kind) = IsFront most (front ++ kind ∷ [])
+GoesOn most front End = (known : Known) × Leads most begun (Text ∷ []) front known []
+GoesOn most front Bad = ⊥
 
 -- behind the front so much is known, and this is wanted
-abbrev pub IsBehind : List Item → Known → List Wanted → Type 0
+abbrev pub IsBehind : List Kind → Known → List Wanted → Type 0
 IsBehind front known wanted = Leads nesting begun (Text ∷ []) front known wanted
 
--- behind the front a role is wanted, and the item stands for one of the two that are refused
-abbrev pub IsNoRole : List Item → Item → ℕ → Type 0
-IsNoRole front item number = (known : Known) × (role : ℕ) × (wanted : List Wanted) × IsBehind front known (RoleOf role ∷ wanted)
-    × ((Means known item top_role × (number ≡ 45)) ⊎ (Means known item bottom_role × (number ≡ 46)))
+-- ---- causes
 
--- the item is a refused construct: its word, or a role that is none
-abbrev pub IsRefused : List Item → Item → ℕ → Type 0
-IsRefused front item number = (item ≡ Word (Key.Refused number)) ⊎ IsNoRole front item number
+-- the token stands for one of the two roles that are refused, and behind the front a role is wanted
+abbrev pub IsNoRole : List Kind → Kind → ℕ → Type 0
+IsNoRole front kind number = (known : Known) × (role : ℕ) × (wanted : List Wanted) × IsBehind front known (RoleOf role ∷ wanted)
+    × ((Means known kind top_role × (number ≡ 45)) ⊎ (Means known kind bottom_role × (number ≡ 46)))
 
--- the item is a short name whose prefix isn't declared
-abbrev pub IsUnknown : List Item → Item → Type 0
-IsUnknown front item = (p : List ℕ) × (l : List ℕ) × (item ≡ Short p l) × (known : Known) × (wanted : List Wanted) × IsBehind front known wanted
+-- a refused construct: its word, or a role that is none
+abbrev pub IsConstruct : List Kind → Next → ℕ → Type 0
+IsConstruct front next number =
+    ((w : List ℕ) × (next ≡ Token (Word w)) × (refused_number w ≡ Some number)) ⊎ ((kind : Kind) × (next ≡ Token kind) × IsNoRole front kind number)
+
+-- a short name whose prefix isn't declared
+abbrev pub IsUnknown : List Kind → Next → Type 0
+IsUnknown front next = (p : List ℕ) × (l : List ℕ) × (next ≡ Token (Short p l)) × (known : Known) × (wanted : List Wanted) × IsBehind front known wanted
     × (meaning known.prefixes p ≡ None)
 
--- the item is the IRI of a prefix that has another one
-abbrev pub IsClash : List Item → Item → Type 0
-IsClash front item = (p : List ℕ) × (i : List ℕ) × (item ≡ FullIri i) × (known : Known) × (wanted : List Wanted) × IsBehind front known (PrefixIri p ∷ wanted)
+-- the IRI of a prefix that has another one
+abbrev pub IsClash : List Kind → Next → Type 0
+IsClash front next = (p : List ℕ) × (i : List ℕ) × (next ≡ Token (FullIri i)) × (known : Known) × (wanted : List Wanted) × IsBehind front known (PrefixIri p ∷ wanted)
     × ((j : List ℕ) × (meaning known.prefixes p ≡ Some j) × (j ≢ i))
 
--- with one more inside each other, the item could stand
-abbrev pub IsDeep : List Item → Item → Type 0
-IsDeep front item = IsFront (suc nesting) (front ++ item ∷ [])
+-- of what is at fault, the first cause that fits: a refused construct, a prefix, one more inside each other than may be, and any other
+abbrev pub IsCause : List Kind → Next → Cause → Type 0
+IsCause front next (Construct number) = IsConstruct front next number
+IsCause front next Prefix = ((number : ℕ) → IsConstruct front next number → ⊥) × (IsUnknown front next ⊎ IsClash front next)
+IsCause front next Depth =
+    ((number : ℕ) → IsConstruct front next number → ⊥) × (IsUnknown front next → ⊥) × (IsClash front next → ⊥) × GoesOn (suc nesting) front next
+IsCause front next Syntax =
+    ((number : ℕ) → IsConstruct front next number → ⊥) × (IsUnknown front next → ⊥) × (IsClash front next → ⊥) × (GoesOn (suc nesting) front next → ⊥)
 
--- of an item at fault, the first cause that fits
-abbrev pub IsCause : List Item → Item → Cause → Type 0
-IsCause front item (Construct number) = IsRefused front item number
-IsCause front item Prefix = ((number : ℕ) → IsRefused front item number → ⊥) × (IsUnknown front item ⊎ IsClash front item)
-IsCause front item Depth =
-    ((number : ℕ) → IsRefused front item number → ⊥) × (IsUnknown front item → ⊥) × (IsClash front item → ⊥) × IsDeep front item
-IsCause front item Syntax =
-    ((number : ℕ) → IsRefused front item number → ⊥) × (IsUnknown front item → ⊥) × (IsClash front item → ⊥) × (IsDeep front item → ⊥)
-
--- item n is the first fault of the items, of this cause
-abbrev pub IsFault : List Item → ℕ → Cause → Type 0
-IsFault items n cause = IsFirstFault items n × IsCause (take n items) (slice_index_or items n Item.End) cause
+-- the front is one of a document's, no document has this behind it, and that is the cause
+pub record IsFault (front : List Kind) (next : Next) (cause : Cause) : Type 0 where
+  pub before : IsFront nesting front
+  pub none : GoesOn nesting front next → ⊥
+  pub cause_is : IsCause front next cause

@@ -1,5 +1,5 @@
--- The items of a text as the grammar sees them: its tokens, and what ends them.
-use Rattle.std.specs.Prelude.{ℕ, List, [], ◌∷◌, ◌++◌, map, slice_index_or}
+-- The items of a text as the parser sees them: its tokens, and what ends them.
+use Rattle.std.specs.Prelude.{ℕ, List, [], ◌∷◌, ◌++◌, map}
 use Rattle.cd_lex.specs.declared.token.Kind.{Kind}
 use Rattle.cd_lex.specs.declared.token.Token.{Token}
 use Rattle.cd_lex.specs.Tokens.{Ending, AtEnd, AtBad}
@@ -36,7 +36,3 @@ last_item (AtBad n) = (Item.Bad, n)
 -- all items of a text
 abbrev pub all_of : List Token → Ending → List PlacedItem
 all_of tokens ending = placed_items tokens ++ last_item ending ∷ []
-
--- the place of item n
-abbrev pub place_at : List PlacedItem → ℕ → ℕ
-place_at items n = slice_index_or (map (λ (placed : PlacedItem). placed.1) items) n 0

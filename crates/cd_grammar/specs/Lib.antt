@@ -1,4 +1,5 @@
 pub mod Causes
+pub mod Constructs
 pub mod Fault
 pub mod Grammar
 pub mod Items
@@ -6,5 +7,7 @@ pub mod Laws
 pub mod Machine
 pub mod Operands
 pub mod Reading
+pub mod Refusal
 pub mod Taking
 pub mod Words
+pub mod WorkedTexts

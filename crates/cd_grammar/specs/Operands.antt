@@ -1,5 +1,5 @@
--- What the operands of each form make: Structural Specification, sections 8.1, 8.2, 9.1 and 9.2. One operand is enough for an
--- intersection or a union, and a class or role goes by its number.
+-- The parser's tables of operands: what those of each form make, and how many there are. Structural Specification, sections 8.1, 8.2, 9.1
+-- and 9.2. The grammar itself writes each axiom and each expression with its operands.
 use Rattle.std.specs.Prelude.{ℕ, Bool, true, false, ◌&&◌, ◌||◌, ◌==◌, nat_lt, List, [], ◌∷◌, Option, Some, None}
 use Rattle.std.specs.Option.{option_map}
 use Rattle.cd_meaning.specs.declared.expression.Expr.{Expr}

@@ -1,5 +1,5 @@
 -- What the calls of a reader tell of the bytes that it was fed.
-use Rattle.std.specs.Prelude.{◌≡◌, ◌≢◌, ℕ, ◌+◌, ◌<◌, ◌≤◌, false, IsTrue, List, [], ◌∷◌, map, length, take, Option, Some, None, Result, Ok, Err, All, AllPairs}
+use Rattle.std.specs.Prelude.{◌≡◌, ◌≢◌, ℕ, ◌+◌, ◌≤◌, false, IsTrue, List, [], ◌∷◌, length, take, Option, Some, None, Result, Ok, Err, All, AllPairs}
 use Rattle.std.specs.List.{list_all, fold}
 use Rattle.cd_base.specs.Iri.{IsIri}
 use Rattle.cd_meaning.specs.declared.document.Document.{Document}
@@ -8,7 +8,6 @@ use Rattle.cd_meaning.specs.Nodes.{nodes}
 use Rattle.cd_meaning.specs.Numbered.{has_numbers_below}
 use Rattle.cd_lex.specs.declared.token.Token.{Token}
 use Rattle.cd_lex.specs.Lexing.{IsLexing}
-use Rattle.cd_lex.specs.Tokens.{HasItems, Ending}
 use Rattle.cd_grammar.specs.declared.cause.Cause.{Cause}
 use Rattle.cd_grammar.specs.declared.item.Item.{Item}
 use Rattle.cd_grammar.specs.declared.known.Known.{Known}
@@ -16,27 +15,11 @@ use Rattle.cd_grammar.specs.declared.parser.Parser.{Parser}
 use Rattle.cd_grammar.specs.declared.reader.Reader.{Reader}
 use Rattle.cd_grammar.specs.declared.refusal.Refusal.{Refusal}
 use Rattle.cd_grammar.specs.declared.symbol.Symbol.{Symbol}
-use Rattle.cd_grammar.specs.Causes.{refusal_at, cause_of, Standing, Going, Stopped, stand_after}
-use Rattle.cd_grammar.specs.Fault.{IsFault}
+use Rattle.cd_grammar.specs.Causes.{cause_of, Standing, Going, Stopped, stand_after}
 use Rattle.cd_grammar.specs.Grammar.{IsRead, IsOnly, begun}
 use Rattle.cd_grammar.specs.Machine.{State}
-use Rattle.cd_grammar.specs.Items.{placed_items, all_of, item_at, place_at}
-
--- ---- what a text is
-
--- the text is no document
-abbrev pub IsUnread : List ℕ → Type 0
-IsUnread bytes = (document : Document) → IsRead bytes document → ⊥
-
--- the text has this first fault
-abbrev pub IsFaulty : List ℕ → Refusal → Type 0
-IsFaulty bytes refusal = (tokens : List Token) × (ending : Ending) × HasItems bytes tokens ending × (n : ℕ) × (cause : Cause)
-    × IsFault (map item_at (all_of tokens ending)) n cause × (refusal ≡ refusal_at cause (place_at (all_of tokens ending) n))
-
--- an input is refused so, of which at most so many bytes are taken
-abbrev pub IsRefused : List ℕ → ℕ → Refusal → Type 0
-IsRefused input most (Refusal.TooLong n) = (most < length input) × (n ≡ most + 1)
-IsRefused input most refusal = (length input ≤ most) × IsFaulty input refusal × IsUnread input
+use Rattle.cd_grammar.specs.Items.{placed_items}
+use Rattle.cd_grammar.specs.Refusal.{IsFaulty, IsUnread}
 
 -- ---- what a document keeps to
 

@@ -1,6 +1,7 @@
 //! Why an item can't stand at its place.
 ghost use Rattle.std.specs.Prelude.{◌≡◌, ◌∷◌, [], List, IfOk};
-ghost use Rattle.cd_grammar.specs.Causes.{refused, refused_role, is_unknown, is_prefix_iri, is_over, wants_role, wants_role_next, first_of_causes, refusal_at};
+ghost use Rattle.cd_grammar.specs.Causes.{refused, refused_role, is_unknown, is_prefix_iri, is_over, wants_role, wants_role_next, first_of_causes};
+ghost use Rattle.cd_grammar.specs.Refusal.{refusal_at};
 ghost use Rattle.cd_grammar.specs.Machine.{iri_of, bare};
 ghost use Rattle.cd_grammar.specs.Grammar.{nesting};
 ghost use Rattle.cd_grammar.specs.declared.words.Form.{Form};

@@ -1,10 +1,12 @@
 //! The document that a source gives.
-ghost use Rattle.std.specs.Prelude.{◌≡◌, ◌≤◌, ◌<◌, ◌^◌, ◌⊎◌, true, length, List, ℕ, Some, Err, [], IfSome, IfOk, OnOk, IsErrOf, All, vec_len};
+ghost use Rattle.std.specs.Prelude.{◌≡◌, ◌≤◌, ◌<◌, ◌+◌, ◌^◌, ◌⊎◌, true, false, length, List, ℕ, Some, Err, [], IfSome, IfOk, OnOk, IsErrOf, All, vec_len};
 ghost use Rattle.std.specs.Io.KnownBytes.{IsAtEnd};
 ghost use Rattle.cd_base.specs.Iri.{IsIri};
 ghost use Rattle.cd_io.specs.Causes.{Rose};
+ghost use Rattle.cd_io.specs.Streams.{LosesAtMost};
 ghost use Rattle.cd_grammar.specs.Grammar.{IsRead, IsOnly};
-ghost use Rattle.cd_grammar.specs.Reading.{IsReading, IsRefused, IsWithin};
+ghost use Rattle.cd_grammar.specs.Reading.{IsReading, IsWithin};
+ghost use Rattle.cd_grammar.specs.Refusal.{IsRefused};
 ghost use Rattle.cd_grammar.specs.Taking.{IsFedFrom};
 ghost use Rattle.cd_grammar.specs.declared.refusal.Refusal.{Refusal};
 
@@ -58,6 +60,9 @@ pub fn read_document<S: Source>(
     ensures ended { OnOk result (S.ended source.new ≡ true) }
     ensures after { OnOk result (S.after source.new ≡ S.after source.old) }
 
+    // Whatever the answer, one byte past the limit is the last that is taken.
+    ensures taken { LosesAtMost (S.left source.old) (S.left source.new) (limits.now.max_bytes + 1) }
+
     // How large the document is, and of which bytes its names are.
     ensures within { IfOk result (λ document. IsWithin limits.now.max_bytes document) }
     ensures small { IfSome (S.left source.old) (λ input. IfOk result (λ document. IsWithin (length input) document)) }
@@ -67,6 +72,7 @@ pub fn read_document<S: Source>(
     ensures refused { IfSome (S.left source.old) (λ input. (refusal : Refusal) → result ≡ Err (ReadRefusal.Refused refusal)
         → IsRefused input limits.now.max_bytes refusal) }
     ensures read_fault { IsErrOf result ReadRefusal.ReadFault → Rose (S.faults source.old) (S.faults source.new) }
+    ensures unended { IsErrOf result ReadRefusal.ReadFault → S.ended source.new ≡ false }
 {
     let most = limits.max_bytes + 1;
     let mut reader = Reader::new(alloc)?;
@@ -93,9 +99,11 @@ fn feed_all<S: Source>(
     ensures within { IfOk result (λ count. count ≤ most) }
     ensures end { IfOk result (λ count. ((S.ended source.new ≡ true) × IsAtEnd (S.left source.new)) ⊎ (count ≡ most)) }
     ensures after { OnOk result (S.after source.new ≡ S.after source.old) }
+    ensures taken { LosesAtMost (S.left source.old) (S.left source.new) most }
     ensures later { S.faults source.old ≤ S.faults source.new }
     ensures unjudged { (refusal : Refusal) → result ≡ Err (ReadRefusal.Refused refusal) → ⊥ }
     ensures fault { IsErrOf result ReadRefusal.ReadFault → Rose (S.faults source.old) (S.faults source.new) }
+    ensures unended { IsErrOf result ReadRefusal.ReadFault → S.ended source.new ≡ false }
 {
     let mut buf = buffer(alloc, PIECE)?;
     let mut count: u64 = 0;

@@ -1,7 +1,8 @@
 //! The words of the grammar.
 ghost use Rattle.std.specs.Prelude.{◌≡◌};
 ghost use Rattle.std.specs.Str.{bytes_eq};
-ghost use Rattle.cd_grammar.specs.Words.{entry, axiom_forms, expr_forms, other_words, refused_roles, refused_classes, refused_data, refused_number, key_of, word_of};
+ghost use Rattle.cd_grammar.specs.Constructs.{entry, refused_roles, refused_classes, refused_data, refused_number, word_of};
+ghost use Rattle.cd_grammar.specs.Words.{axiom_forms, expr_forms, other_words, key_of};
 ghost use Rattle.std.specs.Option.{option_copied};
 
 /// An axiom on classes or roles, by its word. Structural Specification, sections 9.1 and 9.2.

@@ -3,7 +3,8 @@ use Rattle.std.proofs.Common.{◌≡◌, ◌≢◌, ◌⊎◌, ℕ, zero, suc, �
 use Rattle.std.specs.Prelude.{Option, Some, None}
 use Rattle.cd_lex.specs.declared.token.Kind.TheVariants.{Opening, Closing, Equals, Carets, Word, Short, Node, FullIri, Quoted, Lang}
 use Rattle.cd_lex.specs.declared.token.Token.{Token}
-use Rattle.cd_lex.specs.Tokens.{Piece, escaped, spelled, spelled_kind, IsPiece, IsLongest, BeginsWith, IsCut, IsBad, placed, length_of, Ending, AtEnd, AtBad, HasItems, ShowsTokens, ShowsBad, ItemsAreUnique}
+use Rattle.cd_lex.specs.Showing.{ShowsTokens, ShowsBad, ItemsAreUnique}
+use Rattle.cd_lex.specs.Tokens.{Piece, escaped, spelled, spelled_kind, IsPiece, IsLongest, BeginsWith, IsCut, IsBad, placed, length_of, Ending, AtEnd, AtBad, HasItems}
 use Rattle.cd_lex.proofs.CutFirst.{first_piece, Finds, first_found, piece_found, piece_only}
 
 -- ---- one piece

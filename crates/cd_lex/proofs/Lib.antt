@@ -1,3 +1,4 @@
+pub mod CutComputed
 pub mod CutFirst
 pub mod CutLaws
 pub mod CutQuoted
@@ -9,3 +10,4 @@ pub mod MachineLaws
 pub mod MachineRuns
 pub mod MachineShows
 pub mod MachineSteps
+pub mod WorkedTokens

@@ -6,7 +6,8 @@ use Rattle.cd_lex.specs.declared.token.LexFault.{LexFault}
 use Rattle.cd_lex.specs.declared.token.LexFault.TheVariants.{BadByte, Memory}
 use Rattle.cd_lex.specs.declared.machine.Mode.{Mode}
 use Rattle.cd_lex.specs.declared.machine.Mode.TheVariants.{Between, InComment, InWord, InLocal, InNode, InIri, InText, AfterBackslash, AfterCaret, AfterAt, InTag}
-use Rattle.cd_lex.specs.Tokens.{Piece, AtBad, ShowsBad}
+use Rattle.cd_lex.specs.Showing.{ShowsBad}
+use Rattle.cd_lex.specs.Tokens.{Piece, AtBad}
 use Rattle.cd_lex.specs.Machine.{State, start, run, closing, IsRun, IsPopped}
 use Rattle.cd_lex.specs.Lexing.{IsUnfinished, IsAccount, IsLexing, answer_of, IsFed, IsClosed, IsTaken}
 use Rattle.cd_lex.proofs.CutLaws.{items_exist}

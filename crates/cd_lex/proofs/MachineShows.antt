@@ -9,7 +9,8 @@ use Rattle.cd_lex.specs.declared.token.LexFault.{LexFault}
 use Rattle.cd_lex.specs.declared.token.LexFault.TheVariants.{BadByte, Memory}
 use Rattle.cd_lex.specs.declared.machine.Mode.{Mode}
 use Rattle.cd_lex.specs.declared.machine.Mode.TheVariants.{Between, InComment, InWord, InLocal, InNode, InIri, InText, AfterBackslash, AfterCaret, AfterAt, InTag}
-use Rattle.cd_lex.specs.Tokens.{is_name_byte, is_lang_byte, is_letter, Piece, Comment, Lexeme, escaped, spelled, spelled_kind, IsKind, IsPiece, IsLongest, BeginsWith, IsCut, IsBad, placed, length_of, Ending, AtEnd, AtBad, HasItems, ShowsTokens, ShowsBad}
+use Rattle.cd_lex.specs.Showing.{ShowsTokens, ShowsBad}
+use Rattle.cd_lex.specs.Tokens.{is_name_byte, is_lang_byte, is_letter, Piece, Comment, Lexeme, escaped, spelled, spelled_kind, IsKind, IsPiece, IsLongest, BeginsWith, IsCut, IsBad, placed, length_of, Ending, AtEnd, AtBad, HasItems}
 use Rattle.cd_lex.specs.Machine.{State}
 use Rattle.cd_lex.specs.Lexing.{IsCutAhead, IsUnfinished, IsBegunAt, IsAccount, IsLexing, AreFirst, AreAll}
 use Rattle.cd_lex.proofs.CutLaws.{cut_append, placed-append, items_unique, shows_tokens, shows_bad}

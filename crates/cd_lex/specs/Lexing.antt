@@ -8,7 +8,8 @@ use Rattle.cd_lex.specs.declared.token.LexFault.{LexFault}
 use Rattle.cd_lex.specs.declared.token.LexFault.TheVariants.{BadByte, Memory}
 use Rattle.cd_lex.specs.declared.machine.Mode.{Mode}
 use Rattle.cd_lex.specs.declared.machine.Mode.TheVariants.{Between, InComment, InWord, InLocal, InNode, InIri, InText, AfterBackslash, AfterCaret, AfterAt, InTag}
-use Rattle.cd_lex.specs.Tokens.{Piece, Comment, IsKind, IsPiece, IsCut, IsBad, spelled, spelled_kind, escaped, placed, length_of, Ending, AtEnd, AtBad, HasItems, ShowsTokens, ShowsBad}
+use Rattle.cd_lex.specs.Showing.{ShowsTokens, ShowsBad}
+use Rattle.cd_lex.specs.Tokens.{Piece, Comment, IsKind, IsPiece, IsCut, IsBad, spelled, spelled_kind, escaped, placed, length_of, Ending, AtEnd, AtBad, HasItems}
 use Rattle.cd_lex.specs.Machine.{State}
 
 -- ---- what a state means

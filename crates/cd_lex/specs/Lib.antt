@@ -1,3 +1,5 @@
 pub mod Lexing
 pub mod Machine
+pub mod Showing
 pub mod Tokens
+pub mod WorkedTokens

@@ -1,4 +1,4 @@
--- The tokens of a text: Structural Specification, sections 2.2 and 2.4, in the profile of this project, which takes bytes above 127 unchecked.
+-- The tokens of a text: Structural Specification, sections 2.2 to 2.4, in the profile of this project, which takes bytes above 127 unchecked.
 use Rattle.std.specs.Prelude.{◌≡◌, ◌≢◌, ◌⊎◌, ℕ, ◌+◌, Bool, false, not, ◌&&◌, ◌||◌, ◌==◌, if◌then◌else◌, nat_le, nat_lt, IsTrue, List, [], ◌∷◌, ◌++◌, length}
 use Rattle.std.specs.List.{list_all}
 use Rattle.cd_base.specs.Iri.{IsIri}
@@ -112,6 +112,12 @@ IsCut bytes (piece ∷ more) rest = (behind : List ℕ) × BeginsWith bytes piec
 abbrev pub IsBad : List ℕ → Type 0
 IsBad bytes = (bytes ≢ []) × ((piece : Piece) (rest : List ℕ) → BeginsWith bytes piece rest → ⊥)
 
+-- the kinds of the tokens among pieces
+abbrev pub kinds : List Piece → List Kind
+kinds [] = []
+kinds (Lexeme kind ∷ more) = kind ∷ kinds more
+kinds (other ∷ more) = kinds more
+
 -- ---- the items of a text
 
 -- the tokens among pieces, each with its place
@@ -134,21 +140,3 @@ pub data Ending : Type 0 where
 abbrev pub HasItems : List ℕ → List Token → Ending → Type 0
 HasItems bytes tokens (AtEnd n) = (pieces : List Piece) × IsCut bytes pieces [] × (tokens ≡ placed 0 pieces) × (n ≡ length bytes)
 HasItems bytes tokens (AtBad n) = (pieces : List Piece) × (rest : List ℕ) × IsCut bytes pieces rest × IsBad rest × (tokens ≡ placed 0 pieces) × (n ≡ length_of pieces)
-
--- ---- what the first bytes of a text show, whatever follows
-
--- these are its first tokens
-abbrev pub ShowsTokens : List ℕ → List Token → Type 0
-ShowsTokens bytes tokens = (more : List ℕ) (all : List Token) (ending : Ending) → HasItems (bytes ++ more) all ending
-    → (later : List Token) × (all ≡ tokens ++ later)
-
--- it has a bad byte at this place
-abbrev pub ShowsBad : List ℕ → ℕ → Type 0
-ShowsBad bytes n = (more : List ℕ) (all : List Token) (ending : Ending) → HasItems (bytes ++ more) all ending → ending ≡ AtBad n
-
--- ---- laws
-
--- every text has items, and no two lists of them
-pub record ItemsAreUnique : Type 0 where
-  pub some : (bytes : List ℕ) → (tokens : List Token) × (ending : Ending) × HasItems bytes tokens ending
-  pub one : (bytes : List ℕ) (s t : List Token) (e f : Ending) → HasItems bytes s e → HasItems bytes t f → (s ≡ t) × (e ≡ f)

@@ -1,7 +1,7 @@
 //! The calls of a lexer, and what they tell of the text.
 ghost use Rattle.std.specs.Prelude.{◌≡◌, ◌⊎◌, ℕ, ◌+◌, ◌<◌, ◌≤◌, ◌^◌, true, false, List, [], ◌++◌, length, IfSome};
 ghost use Rattle.cd_lex.specs.declared.token.Token.{Token};
-ghost use Rattle.cd_lex.specs.Tokens.{ShowsBad};
+ghost use Rattle.cd_lex.specs.Showing.{ShowsBad};
 ghost use Rattle.cd_lex.specs.Machine.{IsPopped};
 ghost use Rattle.cd_lex.specs.Lexing.{IsLexing, IsFed, IsClosed, IsTaken, answer_of};
 

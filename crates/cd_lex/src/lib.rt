@@ -19,7 +19,7 @@ mod lexer;
 mod machine;
 mod token;
 
-pub use laws::items_are_unique;
+pub use laws::{items_are_unique, worked_tokens};
 pub use machine::Lexer;
 pub use token::{Kind, LexFault, Token};
 

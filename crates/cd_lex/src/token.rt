@@ -1,7 +1,7 @@
 use cd_base::Seq;
 use thiserror::Error;
 
-/// What a token is. Structural Specification, sections 2.2 and 2.4, and 5.6.1 for nodes.
+/// What a token is. Structural Specification, sections 2.2, 2.3 and 2.4.
 #[derive(Debug, Drop)]
 pub enum Kind {
     /// `(`.

@@ -1,5 +1,5 @@
-use Rattle.cd_grammar.proofs.OneReading.{one_reading}
+use Rattle.cd_grammar.proofs.OneReading.{one_known}
 use Rattle.cd_grammar.proofs.laws.has_one_reading.Goals as goal
 
 pub returns : goal.returns
-returns c = one_reading
+returns c = one_known
