@@ -3,7 +3,7 @@ use Rattle.std.proofs.Common.{◌≡◌, ◌⊎◌, ℕ, true, true≢false, Lis
 use Rattle.std.proofs.lemmas.Slice.Eq.{bytes_eq-Decides}
 use Rattle.std.specs.Option.{unwrap_or}
 use Rattle.cd_base.specs.declared.limits.Limits.{Limits}
-use Rattle.cd_words.specs.Form.{Text, Piece, limit, words_of, numeral, values, rest, number, IsCommand, Asks, AsksOnly, HaveSameNumbers, IsOfForm}
+use Rattle.cd_words.specs.Form.{Bytes, Part, limit, words_of, numeral, values, own_words, asked_number, IsCommand, Asks, AsksOnly, HaveSameNumbers, IsOfForm}
 use Rattle.clap.specs.Words.{all_of, matches_of, takes}
 use Rattle.cd_words.specs.CommandLine.{command_line}
 use Rattle.cd_words.specs.Heard.{IsVerb, HasNumbers, IsHeardAs, heard_of, number_found, verb_found}
@@ -27,7 +27,7 @@ use Rattle.cd_words.proofs.Found.{clap_takes}
 some_same : {X : Type 0} (x y : X) (o : Option X) → o ≡ Some x → o ≡ Some y → x ≡ y
 some_same x y o e f = cc
 
-read_number : (standard : ℕ) (vs : List Text) (end : Option ℕ) → number_after None vs ≡ Some end → number standard vs ≡ Some (unwrap_or end standard)
+read_number : (standard : ℕ) (vs : List Bytes) (end : Option ℕ) → number_after None vs ≡ Some end → asked_number standard vs ≡ Some (unwrap_or end standard)
 read_number standard [] end e = let is : None ≡ end = cc in ap (λ (o : Option ℕ). Some (unwrap_or o standard)) is
 read_number standard (v ∷ []) end e =
     let first = first_step (numeral v) (λ n. Some (Some n)) end e in
@@ -37,7 +37,7 @@ read_number standard (v ∷ w ∷ more) end e =
     let first = first_step (numeral v) (λ n. number_after (Some n) (w ∷ more)) end e in
     absurd (some≢none end (sym first.2))
 
-number_read : (standard n : ℕ) (vs : List Text) → number standard vs ≡ Some n → (end : Option ℕ) × (number_after None vs ≡ Some end) × (unwrap_or end standard ≡ n)
+number_read : (standard n : ℕ) (vs : List Bytes) → asked_number standard vs ≡ Some n → (end : Option ℕ) × (number_after None vs ≡ Some end) × (unwrap_or end standard ≡ n)
 number_read standard n [] e = (None, refl, cc)
 number_read standard n (v ∷ []) e = (Some n, rw e refl, refl)
 number_read standard n (v ∷ w ∷ more) e = absurd (some≢none n (sym e))
@@ -45,7 +45,7 @@ number_read standard n (v ∷ w ∷ more) e = absurd (some≢none n (sym e))
 -- ---- the command
 
 -- the first word on its own
-first_word : (w : Text) (verb : Verb) → verb_after Missing w ≡ Some verb → ((w ≡ codes "classify") × (verb ≡ Classify)) ⊎ ((w ≡ codes "trial") × (verb ≡ Trial None))
+first_word : (w : Bytes) (verb : Verb) → verb_after Missing w ≡ Some verb → ((w ≡ codes "classify") × (verb ≡ Classify)) ⊎ ((w ≡ codes "trial") × (verb ≡ Trial None))
 first_word w verb e = elim (is_or_not (bytes_eq w (codes "classify"))) [
   | inl is ↦ inl ((bytes_eq-Decides w (codes "classify")).0 is, some_same verb Classify _ e (rw is refl))
   | inr isnt ↦ elim (is_or_not (bytes_eq w (codes "trial"))) [
@@ -54,30 +54,30 @@ first_word w verb e = elim (is_or_not (bytes_eq w (codes "classify"))) [
   ]
 ]
 
-no_more : (verb end : Verb) (ws : List Text) → ((w : Text) → verb_after verb w ≡ None) → verb_after_all verb ws ≡ Some end → (ws ≡ []) × (verb ≡ end)
+no_more : (verb end : Verb) (ws : List Bytes) → ((w : Bytes) → verb_after verb w ≡ None) → verb_after_all verb ws ≡ Some end → (ws ≡ []) × (verb ≡ end)
 no_more verb end [] none e = (refl, cc)
 no_more verb end (w ∷ ws) none e = absurd (some≢none end (sym e ∙ ap (option_and_then (λ next. verb_after_all next ws)) (none w)))
 
-after_trial : (ws : List Text) (end : Verb) → verb_after_all (Trial None) ws ≡ Some end
-    → (Trial None ≡ end) ⊎ ((value : Text) × (n : ℕ) × (ws ≡ value ∷ []) × (numeral value ≡ Some n) × (Trial (Some n) ≡ end))
+after_trial : (ws : List Bytes) (end : Verb) → verb_after_all (Trial None) ws ≡ Some end
+    → (Trial None ≡ end) ⊎ ((value : Bytes) × (n : ℕ) × (ws ≡ value ∷ []) × (numeral value ≡ Some n) × (Trial (Some n) ≡ end))
 after_trial [] end e = inl cc
 after_trial (value ∷ ws) end e =
     let first = first_step (option_map (λ n. Trial (Some n)) (numeral value)) (λ next. verb_after_all next ws) end e in
-    let number = mapped (numeral value) first.0 first.1 in
-    let ends = no_more (Trial (Some number.0)) end ws (λ w. refl) (ap (λ (x : Verb). verb_after_all x ws) number.2 ∙ first.2) in
-    inr (value, number.0, ap (λ (more : List Text). value ∷ more) ends.0, number.1, ends.1)
+    let asked_number = mapped (numeral value) first.0 first.1 in
+    let ends = no_more (Trial (Some asked_number.0)) end ws (λ w. refl) (ap (λ (x : Verb). verb_after_all x ws) asked_number.2 ∙ first.2) in
+    inr (value, asked_number.0, ap (λ (more : List Bytes). value ∷ more) ends.0, asked_number.1, ends.1)
   where
     mapped : (o : Option ℕ) (verb : Verb) → option_map (λ n. Trial (Some n)) o ≡ Some verb → (n : ℕ) × (o ≡ Some n) × (Trial (Some n) ≡ verb)
     mapped None verb e = absurd (some≢none verb (sym e))
     mapped (Some n) verb e = (n, refl, cc)
 
-read_verb : (words : List Text) (end : Verb) (request : Command) → verb_after_all Missing words ≡ Some end → IsVerb end request → IsCommand words request
+read_verb : (words : List Bytes) (end : Verb) (request : Command) → verb_after_all Missing words ≡ Some end → IsVerb end request → IsCommand words request
 read_verb [] end command.Classify e is = let bad : Missing ≡ Classify = cc in absurd (cc)
 read_verb [] end (command.Trial n) e is = let bad : end ≡ Trial (Some n) = is.0 in let worse : Missing ≡ Trial (Some n) = cc in absurd (cc)
 read_verb (w ∷ ws) end command.Classify e is =
     let first = first_step (verb_after Missing w) (λ next. verb_after_all next ws) end e in
     elim (first_word w first.0 first.1) [
-      | inl c ↦ let ends = no_more Classify end ws (λ w. refl) (ap (λ (x : Verb). verb_after_all x ws) (sym c.1) ∙ first.2) in ap₂ (λ (x : Text) (xs : List Text). x ∷ xs) c.0 ends.0
+      | inl c ↦ let ends = no_more Classify end ws (λ w. refl) (ap (λ (x : Verb). verb_after_all x ws) (sym c.1) ∙ first.2) in ap₂ (λ (x : Bytes) (xs : List Bytes). x ∷ xs) c.0 ends.0
       | inr t ↦ absurd (elim (after_trial ws end (ap (λ (x : Verb). verb_after_all x ws) (sym t.1) ∙ first.2)) [
         | inl bare ↦ let bad : Trial None ≡ Classify = bare ∙ is in cc
         | inr sized ↦ let bad : Trial (Some sized.1) ≡ Classify = sized.4 ∙ is in cc
@@ -94,26 +94,26 @@ read_verb (w ∷ ws) end (command.Trial n) e is =
         | inl bare ↦ let bad : Trial None ≡ Trial (Some n) = bare ∙ is.0 in absurd (cc)
         | inr sized ↦
             let same : Trial (Some sized.1) ≡ Trial (Some n) = sized.4 ∙ is.0 in
-            let number : sized.1 ≡ n = cc in
-            (sized.0, ap₂ (λ (x : Text) (xs : List Text). x ∷ xs) t.0 sized.2, sized.3 ∙ ap Some number, is.1)
+            let asked_number : sized.1 ≡ n = cc in
+            (sized.0, ap₂ (λ (x : Bytes) (xs : List Bytes). x ∷ xs) t.0 sized.2, sized.3 ∙ ap Some asked_number, is.1)
       ]
     ]
 
-verb_read : (words : List Text) (request : Command) → IsCommand words request → (end : Verb) × (verb_after_all Missing words ≡ Some end) × IsVerb end request
+verb_read : (words : List Bytes) (request : Command) → IsCommand words request → (end : Verb) × (verb_after_all Missing words ≡ Some end) × IsVerb end request
 verb_read words command.Classify is = (Classify, rw is refl, refl)
 verb_read words (command.Trial n) (value, is, read, small) = (Trial (Some n), rw (is, read) refl, (refl, small))
 
 -- ---- both ways
 
-pub heard_asks : (words : List Text) (end : Heard) (request : Command) (limits : Limits) → heard_all nothing_heard words ≡ Some end
+pub heard_asks : (words : List Bytes) (end : Heard) (request : Command) (limits : Limits) → heard_all nothing_heard words ≡ Some end
     → IsHeardAs end request limits → Asks words request limits
 heard_asks words end request limits e is =
     let pieces = of_pieces words nothing_heard end refl is.complete e in
     let h = pieces_heard pieces.0 nothing_heard end pieces.2 in
     record {
-      pieces = pieces.0;
+      parts = pieces.0;
       spelled = pieces.1;
-      command = read_verb (rest pieces.0) end.verb request h.verb is.verb;
+      command = read_verb (own_words pieces.0) end.verb request h.verb is.verb;
       workers = read_number 4 (values Workers pieces.0) end.workers (h.numbers Workers) ∙ ap Some is.numbers.workers;
       cells = read_number 256 (values Cells pieces.0) end.cells (h.numbers Cells) ∙ ap Some is.numbers.cells;
       max_contexts = read_number 1000000 (values MaxContexts pieces.0) end.max_contexts (h.numbers MaxContexts) ∙ ap Some is.numbers.max_contexts;
@@ -121,27 +121,27 @@ heard_asks words end request limits e is =
       max_bytes = is.numbers.max_bytes;
     }
 
-abbrev HasNumber : List Text → Type 0
+abbrev HasNumber : List Bytes → Type 0
 HasNumber vs = (end : Option ℕ) × (number_after None vs ≡ Some end)
 
-by_option : (pieces : List Piece) → HasNumber (values Workers pieces) → HasNumber (values Cells pieces) → HasNumber (values MaxContexts pieces)
+by_option : (pieces : List Part) → HasNumber (values Workers pieces) → HasNumber (values Cells pieces) → HasNumber (values MaxContexts pieces)
     → HasNumber (values MaxFacts pieces) → HasNumbersAfter nothing_heard pieces
 by_option pieces workers cells max_contexts max_facts Workers = workers
 by_option pieces workers cells max_contexts max_facts Cells = cells
 by_option pieces workers cells max_contexts max_facts MaxContexts = max_contexts
 by_option pieces workers cells max_contexts max_facts MaxFacts = max_facts
 
-pub asks_pieces : (words : List Text) (request : Command) (limits : Limits) (a : Asks words request limits)
-    → (end : Heard) × (heard_pieces nothing_heard a.pieces ≡ Some end) × IsHeardAs end request limits
+pub asks_pieces : (words : List Bytes) (request : Command) (limits : Limits) (a : Asks words request limits)
+    → (end : Heard) × (heard_pieces nothing_heard a.parts ≡ Some end) × IsHeardAs end request limits
 asks_pieces words request limits a =
-    let workers = number_read 4 limits.workers (values Workers a.pieces) a.workers in
-    let cells = number_read 256 limits.cells (values Cells a.pieces) a.cells in
-    let max_contexts = number_read 1000000 limits.max_contexts (values MaxContexts a.pieces) a.max_contexts in
-    let max_facts = number_read 10000000 limits.max_facts (values MaxFacts a.pieces) a.max_facts in
-    let verb = verb_read (rest a.pieces) request a.command in
-    let numbers = by_option a.pieces (workers.0, workers.1) (cells.0, cells.1) (max_contexts.0, max_contexts.1) (max_facts.0, max_facts.1) in
-    let end = pieces_come a.pieces nothing_heard numbers (verb.0, verb.1) in
-    let h = pieces_heard a.pieces nothing_heard end.0 end.1 in (
+    let workers = number_read 4 limits.workers (values Workers a.parts) a.workers in
+    let cells = number_read 256 limits.cells (values Cells a.parts) a.cells in
+    let max_contexts = number_read 1000000 limits.max_contexts (values MaxContexts a.parts) a.max_contexts in
+    let max_facts = number_read 10000000 limits.max_facts (values MaxFacts a.parts) a.max_facts in
+    let verb = verb_read (own_words a.parts) request a.command in
+    let numbers = by_option a.parts (workers.0, workers.1) (cells.0, cells.1) (max_contexts.0, max_contexts.1) (max_facts.0, max_facts.1) in
+    let end = pieces_come a.parts nothing_heard numbers (verb.0, verb.1) in
+    let h = pieces_heard a.parts nothing_heard end.0 end.1 in (
       end.0,
       end.1,
       record {
@@ -157,11 +157,11 @@ asks_pieces words request limits a =
       },
     )
 
-pub asks_heard : (words : List Text) (request : Command) (limits : Limits) → Asks words request limits
+pub asks_heard : (words : List Bytes) (request : Command) (limits : Limits) → Asks words request limits
     → (end : Heard) × (heard_all nothing_heard words ≡ Some end) × IsHeardAs end request limits
 asks_heard words request limits a =
     let end = asks_pieces words request limits a in
-    (end.0, ap (heard_all nothing_heard) a.spelled ∙ words_heard a.pieces nothing_heard end.0 refl end.1, end.2)
+    (end.0, ap (heard_all nothing_heard) a.spelled ∙ words_heard a.parts nothing_heard end.0 refl end.1, end.2)
 
 -- ---- what that says of an answer
 
@@ -171,8 +171,8 @@ same_verb end command.Classify (command.Trial n) p q = let bad : Classify ≡ Tr
 same_verb end (command.Trial n) command.Classify p q = let bad : Classify ≡ Trial (Some n) = sym q ∙ p.0 in absurd (cc)
 same_verb end (command.Trial m) (command.Trial n) p q =
     let same : Trial (Some m) ≡ Trial (Some n) = sym p.0 ∙ q.0 in
-    let number : m ≡ n = cc in
-    ap (λ (k : ℕ). command.Trial k) number
+    let asked_number : m ≡ n = cc in
+    ap (λ (k : ℕ). command.Trial k) asked_number
 
 same_limits : (end : Heard) (a b : Limits) → HasNumbers end a → HasNumbers end b → HaveSameNumbers a b
 same_limits end a b p q = record {
@@ -183,13 +183,13 @@ same_limits end a b p q = record {
   max_bytes = p.max_bytes ∙ sym q.max_bytes;
 }
 
-pub unheard : (words : List Text) → heard_all nothing_heard words ≡ None → IsOfForm words → ⊥
+pub unheard : (words : List Bytes) → heard_all nothing_heard words ≡ None → IsOfForm words → ⊥
 unheard words none (request, limits, asks) =
     let heard = asks_heard words request limits asks in
     some≢none heard.0 (sym heard.1 ∙ none)
 
 -- what all words were heard as tells what they ask, and that they ask nothing else
-pub tells : (words : List Text) (end : Heard) (o : Option Ask) → heard_all nothing_heard words ≡ Some end
+pub tells : (words : List Bytes) (end : Heard) (o : Option Ask) → heard_all nothing_heard words ≡ Some end
     → IfSome o (λ asked. IsHeardAs end asked.command asked.limits) → IfNone o ((request : Command) → (limits : Limits) → IsHeardAs end request limits → ⊥)
     → IfOk (ok_or o fault.Usage) (λ asked. Asks words asked.command asked.limits)
     × IfOk (ok_or o fault.Usage) (λ asked. AsksOnly words asked.command asked.limits)
@@ -217,7 +217,7 @@ tells words end None e some none = (tt, tt, (λ is. outside, λ is. refl))
         none request limits (rw is at heard.2)
 
 -- whether something is asked tells whether the words are of the form
-pub decides : (words : List Text) (end : Heard) (o : Option Ask) → heard_all nothing_heard words ≡ Some end
+pub decides : (words : List Bytes) (end : Heard) (o : Option Ask) → heard_all nothing_heard words ≡ Some end
     → IfSome o (λ asked. IsHeardAs end asked.command asked.limits) → IfNone o ((request : Command) → (limits : Limits) → IsHeardAs end request limits → ⊥)
     → (is_some o ≡ true) ↔ IsOfForm words
 decides words end (Some asked) e some none = (λ is. (asked.command, asked.limits, heard_asks words end asked.command asked.limits e some), λ form. refl)
@@ -228,7 +228,7 @@ decides words end None e some none = (
 
 -- ---- what `clap` finds in words of the form is what they are heard as
 
-number_listed : (vs : List Text) (end : Option ℕ) → number_after None vs ≡ Some end → number_found (listed vs) ≡ end
+number_listed : (vs : List Bytes) (end : Option ℕ) → number_after None vs ≡ Some end → number_found (listed vs) ≡ end
 number_listed [] end e = cc
 number_listed (v ∷ []) end e =
     let first = first_step (numeral v) (λ n. Some (Some n)) end e in
@@ -238,32 +238,32 @@ number_listed (v ∷ w ∷ more) end e =
     let first = first_step (numeral v) (λ n. number_after (Some n) (w ∷ more)) end e in
     absurd (some≢none end (sym first.2))
 
-verb_listed : (words : List Text) (end : Verb) (request : Command) → IsCommand words request → IsVerb end request → verb_found (listed words) ≡ end
-verb_listed words end command.Classify is told = ap (λ (ws : List Text). verb_found (listed ws)) is ∙ sym told
+verb_listed : (words : List Bytes) (end : Verb) (request : Command) → IsCommand words request → IsVerb end request → verb_found (listed words) ≡ end
+verb_listed words end command.Classify is told = ap (λ (ws : List Bytes). verb_found (listed ws)) is ∙ sym told
 verb_listed words end (command.Trial n) (value, is, read, small) told =
-    ap (λ (ws : List Text). verb_found (listed ws)) is ∙ ap (λ (o : Option ℕ). Trial o) read ∙ sym told.0
+    ap (λ (ws : List Bytes). verb_found (listed ws)) is ∙ ap (λ (o : Option ℕ). Trial o) read ∙ sym told.0
 
-pub form_found : (words : List Text) → IsOfForm words
+pub form_found : (words : List Bytes) → IsOfForm words
     → (takes command_line words ≡ true) × (heard_all nothing_heard words ≡ Some (heard_of (matches_of command_line words)))
 form_found words (request, limits, a) =
     let end = asks_pieces words request limits a in
-    let h = pieces_heard a.pieces nothing_heard end.0 end.1 in
-    let clap = clap_takes a.pieces nothing_heard end.0 end.1 in
-    let rows = matches_of command_line (words_of a.pieces) in
-    let workers : number_found (all_of (limit Workers) rows) ≡ end.0.workers = ap number_found (clap.1.options Workers) ∙ number_listed (values Workers a.pieces) end.0.workers (h.numbers Workers) in
-    let cells : number_found (all_of (limit Cells) rows) ≡ end.0.cells = ap number_found (clap.1.options Cells) ∙ number_listed (values Cells a.pieces) end.0.cells (h.numbers Cells) in
-    let max_contexts : number_found (all_of (limit MaxContexts) rows) ≡ end.0.max_contexts = ap number_found (clap.1.options MaxContexts) ∙ number_listed (values MaxContexts a.pieces) end.0.max_contexts (h.numbers MaxContexts) in
-    let max_facts : number_found (all_of (limit MaxFacts) rows) ≡ end.0.max_facts = ap number_found (clap.1.options MaxFacts) ∙ number_listed (values MaxFacts a.pieces) end.0.max_facts (h.numbers MaxFacts) in
-    let verb : verb_found (all_of (codes "words") rows) ≡ end.0.verb = ap verb_found clap.1.words_found ∙ verb_listed (rest a.pieces) end.0.verb request a.command end.2.verb in
+    let h = pieces_heard a.parts nothing_heard end.0 end.1 in
+    let clap = clap_takes a.parts nothing_heard end.0 end.1 in
+    let rows = matches_of command_line (words_of a.parts) in
+    let workers : number_found (all_of (limit Workers) rows) ≡ end.0.workers = ap number_found (clap.1.options Workers) ∙ number_listed (values Workers a.parts) end.0.workers (h.numbers Workers) in
+    let cells : number_found (all_of (limit Cells) rows) ≡ end.0.cells = ap number_found (clap.1.options Cells) ∙ number_listed (values Cells a.parts) end.0.cells (h.numbers Cells) in
+    let max_contexts : number_found (all_of (limit MaxContexts) rows) ≡ end.0.max_contexts = ap number_found (clap.1.options MaxContexts) ∙ number_listed (values MaxContexts a.parts) end.0.max_contexts (h.numbers MaxContexts) in
+    let max_facts : number_found (all_of (limit MaxFacts) rows) ≡ end.0.max_facts = ap number_found (clap.1.options MaxFacts) ∙ number_listed (values MaxFacts a.parts) end.0.max_facts (h.numbers MaxFacts) in
+    let verb : verb_found (all_of (codes "words") rows) ≡ end.0.verb = ap verb_found clap.1.words_found ∙ verb_listed (own_words a.parts) end.0.verb request a.command end.2.verb in
     let waiting : None ≡ end.0.waiting = sym end.2.complete in
     let same : heard_of rows ≡ end.0 = λ i. record { workers = workers i; cells = cells i; max_contexts = max_contexts i; max_facts = max_facts i; verb = verb i; waiting = waiting i } in (
       ap (takes command_line) a.spelled ∙ clap.0,
-      ap (heard_all nothing_heard) a.spelled ∙ words_heard a.pieces nothing_heard end.0 refl end.1
-          ∙ ap Some (sym same) ∙ ap (λ (ws : List Text). Some (heard_of (matches_of command_line ws))) (sym a.spelled),
+      ap (heard_all nothing_heard) a.spelled ∙ words_heard a.parts nothing_heard end.0 refl end.1
+          ∙ ap Some (sym same) ∙ ap (λ (ws : List Bytes). Some (heard_of (matches_of command_line ws))) (sym a.spelled),
     )
 
 -- a refusal of words of the form is for want of memory
-pub refused_form : (words : List Text) (r : Result Ask AskFault) (told : AskFault) → IsOfForm words → r ≡ Err told
+pub refused_form : (words : List Bytes) (r : Result Ask AskFault) (told : AskFault) → IsOfForm words → r ≡ Err told
     → (takes command_line words ≡ true → told ≡ fault.Memory) → IsErrOf r fault.Usage ↔ (IsOfForm words → ⊥)
 refused_form words r told form is memory = (
   λ usage. let wants : told ≡ fault.Memory = memory (form_found words form).0 in let bad : fault.Memory ≡ fault.Usage = cc in absurd (cc),
@@ -271,13 +271,13 @@ refused_form words r told form is memory = (
 )
 
 -- what an answer has to say of the words
-pub record IsAnswer (words : List Text) (r : Result Ask AskFault) : Type 0 where
+pub record IsAnswer (words : List Bytes) (r : Result Ask AskFault) : Type 0 where
   pub asked : IfOk r (λ asked. Asks words asked.command asked.limits)
   pub only : IfOk r (λ asked. AsksOnly words asked.command asked.limits)
   pub usage : IsErrOf r fault.Usage ↔ (IsOfForm words → ⊥)
 
 -- what is asked where words of the form were parsed
-pub form_answer : (words : List Text) (heard : Heard) (o : Option Ask) (r : Result Ask AskFault) → IsOfForm words → heard ≡ heard_of (matches_of command_line words)
+pub form_answer : (words : List Bytes) (heard : Heard) (o : Option Ask) (r : Result Ask AskFault) → IsOfForm words → heard ≡ heard_of (matches_of command_line words)
     → IfSome o (λ asked. IsHeardAs heard asked.command asked.limits) → IfNone o ((request : Command) → (limits : Limits) → IsHeardAs heard request limits → ⊥)
     → r ≡ ok_or o fault.Usage → IsAnswer words r
 form_answer words heard o r form is some none answer =

@@ -6,7 +6,7 @@ use Rattle.clap.specs.declared.parser.matches.ValueSource.TheVariants.{CommandLi
 use Rattle.clap.specs.Simple.{matches_of}
 use Rattle.clap.specs.Takes.{settle_passes, takes, turn_passes, walk_passes}
 use Rattle.cd_words.specs.CommandLine.{command_line}
-use Rattle.cd_words.specs.Form.{Piece, apart, joined, alone, name, limit, given, values, rest, words_of, numeral, begins_above_zero}
+use Rattle.cd_words.specs.Form.{Part, apart, joined, alone, name, limit, given, values, own_words, words_of, numeral, begins_above_zero}
 use Rattle.cd_words.specs.Reading.{heard_value, heard_alone, verb_after}
 use Rattle.cd_words.specs.declared.heard.Heard.{Heard}
 use Rattle.cd_words.specs.declared.heard.Verb.{Verb}
@@ -123,7 +123,7 @@ passes_none from = refl
 passes_one : (from next : Walk) (word : Text) (more : List Text) → turn_passes shape [] from word ≡ true → walked rules [] from word ≡ next
     → walk_passes shape [] next more ≡ true → walk_passes shape [] from (word ∷ more) ≡ true
 unfolding walk_passes
-passes_one from next word more passes is rest = ap₂ (λ (a : Bool) (w : Walk). a && walk_passes shape [] w more) passes is ∙ rest
+passes_one from next word more passes is own_words = ap₂ (λ (a : Bool) (w : Walk). a && walk_passes shape [] w more) passes is ∙ own_words
 
 one_more : (from next : Walk) (word : Text) (more : List Text) (texts : Setting → List Text) (words : List Text)
     → turn_passes shape [] from word ≡ true → walked rules [] from word ≡ next → Goes next more texts words → Goes from (word ∷ more) texts words
@@ -149,10 +149,10 @@ rows_pending held Cells value = refl
 rows_pending held MaxContexts value = refl
 rows_pending held MaxFacts value = refl
 
-over_pieces : (pieces : List Piece) (heard end : Heard) → heard_pieces heard pieces ≡ Some end
+over_pieces : (pieces : List Part) (heard end : Heard) → heard_pieces heard pieces ≡ Some end
     → (held : Held) (waiting : Waiting) → IsFree waiting → settle_passes rules false held ≡ true
     → (texts all_texts : Setting → List Text) (words all_words : List Text) → IsFound (rows_in held) texts words
-    → ((option : Setting) → texts option ++ values option pieces ≡ all_texts option) → words ++ rest pieces ≡ all_words
+    → ((option : Setting) → texts option ++ values option pieces ≡ all_texts option) → words ++ own_words pieces ≡ all_words
     → Goes (walk_at held waiting) (words_of pieces) all_texts all_words
 over_pieces [] heard end e held waiting free settles texts all_texts words all_words h is_texts is_words = record {
   held = held;
@@ -197,7 +197,7 @@ over_pieces (alone word ∷ more) heard end e held waiting free settles texts al
     (over_pieces more first.0 end first.2 pending positional IsFree.after_word refl
     texts all_texts (words ++ word ∷ []) all_words
     (word_found (rows_in held) (rows_in pending) texts words word h refl)
-    is_texts (append_assoc words (word ∷ []) (rest more) ∙ is_words))
+    is_texts (append_assoc words (word ∷ []) (own_words more) ∙ is_words))
 
 -- ---- what is found at the end
 
@@ -217,12 +217,12 @@ no_defaults held =
     ∙ same_default rows words_built refl
 
 -- `clap` takes words that were heard to their end, and finds what their pieces give
-pub clap_takes : (pieces : List Piece) (heard end : Heard) → heard_pieces heard pieces ≡ Some end
-    → (takes command_line (words_of pieces) ≡ true) × IsFound (matches_of command_line (words_of pieces)) (λ option. values option pieces) (rest pieces)
+pub clap_takes : (pieces : List Part) (heard end : Heard) → heard_pieces heard pieces ≡ Some end
+    → (takes command_line (words_of pieces) ≡ true) × IsFound (matches_of command_line (words_of pieces)) (λ option. values option pieces) (own_words pieces)
 clap_takes pieces heard end e =
-    let goes = over_pieces pieces heard end e nothing_held idle IsFree.after_option refl (λ option. []) (λ option. values option pieces) [] (rest pieces)
+    let goes = over_pieces pieces heard end e nothing_held idle IsFree.after_option refl (λ option. []) (λ option. values option pieces) [] (own_words pieces)
     (record { options = λ option. refl; words_found = refl }) (λ option. refl) refl in
     let held : (walk rules [] nothing_held (words_of pieces)).held ≡ goes.held = ap (λ (w : Walk). w.held) goes.walks in (
       rw (goes.walks, goes.passes, goes.settles) refl,
-      subst (λ (rows : List Row). IsFound rows (λ option. values option pieces) (rest pieces)) (sym (ap (finished rules) held ∙ no_defaults goes.held)) goes.found,
+      subst (λ (rows : List Row). IsFound rows (λ option. values option pieces) (own_words pieces)) (sym (ap (finished rules) held ∙ no_defaults goes.held)) goes.found,
     )

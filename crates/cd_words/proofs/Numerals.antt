@@ -4,16 +4,16 @@ use Rattle.std.specs.Result.{result_ok, OkIff}
 use Rattle.std.specs.Str.{all_ascii_digits}
 use Rattle.std.specs.Str.Parse.{digits_value, ParsesUnsigned}
 use Rattle.std.proofs.lemmas.Str.Parse.{IsNumeralModel, numerals_by_value, parse_plain, parse_gives, digits_value_short}
-use Rattle.cd_words.specs.Form.{Text, begins_above_zero, numeral}
+use Rattle.cd_words.specs.Form.{Bytes, begins_above_zero, numeral}
 
 own : IsNumeralModel (λ ds. all_ascii_digits ds ≡ true) (digits_value 10)
 own = numerals_by_value _ (search rules)
 
-starts : (text : Text) → begins_above_zero text ≡ true → (0 < length text) × (get_or text 0 0 ≢ 43)
+starts : (text : Bytes) → begins_above_zero text ≡ true → (0 < length text) × (get_or text 0 0 ≢ 43)
 starts [] e = absurd (true≢false (sym e))
 starts (d ∷ more) e = (grind arith, grind arith)
 
-pub numeral_read : {E : Type 0} (text : Text) (r : Result ℕ E) → ParsesUnsigned 64 10 text r → length text ≤ 10 → begins_above_zero text ≡ true
+pub numeral_read : {E : Type 0} (text : Bytes) (r : Result ℕ E) → ParsesUnsigned 64 10 text r → length text ≤ 10 → begins_above_zero text ≡ true
     → result_ok r ≡ numeral text
 numeral_read {E} text r parsed short begun = go (all_ascii_digits text) refl
   where

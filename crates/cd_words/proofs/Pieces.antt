@@ -1,6 +1,6 @@
 -- What is heard of pieces, and the values and words that they give.
 use Rattle.std.proofs.Common.{◌≡◌, ◌⊎◌, ℕ, Bool, cond, true, false, true≢false, List, [], ◌∷◌, ◌++◌, Option, Some, None, is_some, option_map, option_and_then, refl, ap, sym, ◌∙◌, inl, inr}
-use Rattle.cd_words.specs.Form.{Text, Piece, apart, joined, alone, numeral, given, values, rest}
+use Rattle.cd_words.specs.Form.{Bytes, Part, apart, joined, alone, numeral, given, values, own_words}
 use Rattle.cd_words.specs.Reading.{heard_value, heard_alone, number_heard, with_number, verb_after}
 use Rattle.cd_words.specs.declared.heard.Heard.{Heard}
 use Rattle.cd_words.specs.declared.heard.Verb.{Verb}
@@ -16,34 +16,34 @@ is_or_not false = inr refl
 
 -- ---- pieces heard one by one
 
-abbrev pub heard_piece : Heard → Piece → Option Heard
+abbrev pub heard_piece : Heard → Part → Option Heard
 heard_piece heard (apart option value) = heard_value heard option value
 heard_piece heard (joined option value) = heard_value heard option value
 heard_piece heard (alone word) = heard_alone heard word
 
-abbrev pub heard_pieces : Heard → List Piece → Option Heard
+abbrev pub heard_pieces : Heard → List Part → Option Heard
 heard_pieces heard [] = Some heard
 heard_pieces heard (piece ∷ more) = option_and_then (λ next. heard_pieces next more) (heard_piece heard piece)
 
 -- the number after the values, each of which is the first
-abbrev pub number_after : Option ℕ → List Text → Option (Option ℕ)
+abbrev pub number_after : Option ℕ → List Bytes → Option (Option ℕ)
 number_after had [] = Some had
 number_after None (value ∷ more) = option_and_then (λ n. number_after (Some n) more) (numeral value)
 number_after (Some n) (value ∷ more) = None
 
-abbrev pub verb_after_all : Verb → List Text → Option Verb
+abbrev pub verb_after_all : Verb → List Bytes → Option Verb
 verb_after_all verb [] = Some verb
 verb_after_all verb (word ∷ more) = option_and_then (λ next. verb_after_all next more) (verb_after verb word)
 
 -- ---- a value
 
-pub record IsValue (heard : Heard) (option : Setting) (value : Text) (next : Heard) : Type 0 where
+pub record IsValue (heard : Heard) (option : Setting) (value : Bytes) (next : Heard) : Type 0 where
   pub n : ℕ
   pub new : number_heard heard option ≡ None
   pub read : numeral value ≡ Some n
   pub is : next ≡ with_number heard option n
 
-pub value_heard : (heard next : Heard) (option : Setting) (value : Text) → heard_value heard option value ≡ Some next → IsValue heard option value next
+pub value_heard : (heard next : Heard) (option : Setting) (value : Bytes) → heard_value heard option value ≡ Some next → IsValue heard option value next
 value_heard heard next option value e = go (number_heard heard option) (numeral value) refl refl e
   where
     go : (had n : Option ℕ) → number_heard heard option ≡ had → numeral value ≡ n
@@ -54,11 +54,11 @@ value_heard heard next option value e = go (number_heard heard option) (numeral 
 
 -- ---- the numbers that are heard
 
-step_same : (had : Option ℕ) (value : Text) (n : ℕ) (more : List Text) → had ≡ None → numeral value ≡ Some n
+step_same : (had : Option ℕ) (value : Bytes) (n : ℕ) (more : List Bytes) → had ≡ None → numeral value ≡ Some n
     → number_after had (value ∷ more) ≡ number_after (Some n) more
 step_same had value n more new read = rw (new, read) refl
 
-number_step : (heard : Heard) (option other : Setting) (value : Text) (n : ℕ) (more : List Text) → number_heard heard other ≡ None → numeral value ≡ Some n
+number_step : (heard : Heard) (option other : Setting) (value : Bytes) (n : ℕ) (more : List Bytes) → number_heard heard other ≡ None → numeral value ≡ Some n
     → number_after (number_heard heard option) (given option other value ++ more) ≡ number_after (number_heard (with_number heard other n) option) more
 number_step heard Workers Workers value n more new read = step_same _ value n more new read
 number_step heard Workers Cells value n more new read = refl
@@ -78,9 +78,9 @@ number_step heard MaxFacts MaxContexts value n more new read = refl
 number_step heard MaxFacts MaxFacts value n more new read = step_same _ value n more new read
 
 -- the numbers and the words on their own, after the pieces
-pub record IsHeardOf (heard : Heard) (pieces : List Piece) (end : Heard) : Type 0 where
+pub record IsHeardOf (heard : Heard) (pieces : List Part) (end : Heard) : Type 0 where
   pub numbers : (option : Setting) → number_after (number_heard heard option) (values option pieces) ≡ Some (number_heard end option)
-  pub verb : verb_after_all heard.verb (rest pieces) ≡ Some end.verb
+  pub verb : verb_after_all heard.verb (own_words pieces) ≡ Some end.verb
   pub waiting : heard.waiting ≡ None → end.waiting ≡ None
 
 pub value_kept : (heard : Heard) (option : Setting) (n : ℕ) → ((with_number heard option n).verb ≡ heard.verb) × ((with_number heard option n).waiting ≡ None)
@@ -89,38 +89,38 @@ value_kept heard Cells n = (refl, refl)
 value_kept heard MaxContexts n = (refl, refl)
 value_kept heard MaxFacts n = (refl, refl)
 
-abbrev pub values_after_value : Setting → Text → List Piece → Setting → List Text
+abbrev pub values_after_value : Setting → Bytes → List Part → Setting → List Bytes
 values_after_value other value more option = given option other value ++ values option more
 
-after_value : (heard next end : Heard) (other : Setting) (value : Text) (more : List Piece) → IsValue heard other value next → IsHeardOf next more end
+after_value : (heard next end : Heard) (other : Setting) (value : Bytes) (more : List Part) → IsValue heard other value next → IsHeardOf next more end
     → ((option : Setting) → number_after (number_heard heard option) (values_after_value other value more option) ≡ Some (number_heard end option))
-    × (verb_after_all heard.verb (rest more) ≡ Some end.verb) × (end.waiting ≡ None)
+    × (verb_after_all heard.verb (own_words more) ≡ Some end.verb) × (end.waiting ≡ None)
 after_value heard next end other value more v h =
     let kept = value_kept heard other v.n in
     let verb : next.verb ≡ heard.verb = ap (λ (x : Heard). x.verb) v.is ∙ kept.0 in
     let idle : next.waiting ≡ None = ap (λ (x : Heard). x.waiting) v.is ∙ kept.1 in (
       λ option. number_step heard option other value v.n (values option more) v.new v.read
           ∙ ap (λ (x : Heard). number_after (number_heard x option) (values option more)) (sym v.is) ∙ h.numbers option,
-      ap (λ (x : Verb). verb_after_all x (rest more)) (sym verb) ∙ h.verb,
+      ap (λ (x : Verb). verb_after_all x (own_words more)) (sym verb) ∙ h.verb,
       h.waiting idle,
     )
 
-pub record IsAlone (heard : Heard) (word : Text) (next : Heard) : Type 0 where
+pub record IsAlone (heard : Heard) (word : Bytes) (next : Heard) : Type 0 where
   pub verb : Verb
   pub told : verb_after heard.verb word ≡ Some verb
   pub is : next ≡ record heard { verb = verb }
 
-pub alone_heard : (heard next : Heard) (word : Text) → heard_alone heard word ≡ Some next → IsAlone heard word next
+pub alone_heard : (heard next : Heard) (word : Bytes) → heard_alone heard word ≡ Some next → IsAlone heard word next
 alone_heard heard next word e = go (verb_after heard.verb word) refl e
   where
     go : (v : Option Verb) → verb_after heard.verb word ≡ v → option_map (λ verb. record heard { verb = verb }) v ≡ Some next → IsAlone heard word next
     go None is e = absurd (some≢none next (sym e))
     go (Some verb) is e = record { verb = verb; told = is; is = cc }
 
-after_alone : (heard next end : Heard) (word : Text) (more : List Piece) → IsAlone heard word next → IsHeardOf next more end → IsHeardOf heard (alone word ∷ more) end
+after_alone : (heard next end : Heard) (word : Bytes) (more : List Part) → IsAlone heard word next → IsHeardOf next more end → IsHeardOf heard (alone word ∷ more) end
 after_alone heard next end word more v h = record {
   numbers = λ option. ap (λ (x : Option ℕ). number_after x (values option more)) (same option) ∙ h.numbers option;
-  verb = rw v.told (ap (λ (x : Heard). verb_after_all x.verb (rest more)) (sym v.is) ∙ h.verb);
+  verb = rw v.told (ap (λ (x : Heard). verb_after_all x.verb (own_words more)) (sym v.is) ∙ h.verb);
   waiting = λ idle. h.waiting (ap (λ (x : Heard). x.waiting) v.is ∙ idle);
 }
   where
@@ -135,7 +135,7 @@ pub first_step : {X Y : Type 0} (o : Option X) (f : X → Option Y) (end : Y) �
 first_step None f end e = absurd (some≢none end (sym e))
 first_step (Some next) f end e = (next, refl, e)
 
-pub pieces_heard : (pieces : List Piece) (heard end : Heard) → heard_pieces heard pieces ≡ Some end → IsHeardOf heard pieces end
+pub pieces_heard : (pieces : List Part) (heard end : Heard) → heard_pieces heard pieces ≡ Some end → IsHeardOf heard pieces end
 pieces_heard [] heard end e =
     let is : heard ≡ end = cc in
     record {
@@ -158,7 +158,7 @@ pieces_heard (alone word ∷ more) heard end e =
 -- ---- where something is heard
 
 -- the first value of an option is a numeral, and it had none
-number_first : (heard : Heard) (other : Setting) (value : Text) (more : List Text) (end : Option ℕ)
+number_first : (heard : Heard) (other : Setting) (value : Bytes) (more : List Bytes) (end : Option ℕ)
     → number_after (number_heard heard other) (given other other value ++ more) ≡ Some end
     → (number_heard heard other ≡ None) × (n : ℕ) × (numeral value ≡ Some n)
 number_first heard other value more end = at other
@@ -178,19 +178,19 @@ number_first heard other value more end = at other
     at MaxContexts e = go heard.max_contexts e
     at MaxFacts e = go heard.max_facts e
 
-abbrev pub HasNumbersAfter : Heard → List Piece → Type 0
+abbrev pub HasNumbersAfter : Heard → List Part → Type 0
 HasNumbersAfter heard pieces = (option : Setting) → (end : Option ℕ) × (number_after (number_heard heard option) (values option pieces) ≡ Some end)
 
-abbrev pub HasVerbAfter : Heard → List Piece → Type 0
-HasVerbAfter heard pieces = (end : Verb) × (verb_after_all heard.verb (rest pieces) ≡ Some end)
+abbrev pub HasVerbAfter : Heard → List Part → Type 0
+HasVerbAfter heard pieces = (end : Verb) × (verb_after_all heard.verb (own_words pieces) ≡ Some end)
 
-abbrev IsHeard : Heard → List Piece → Type 0
+abbrev IsHeard : Heard → List Part → Type 0
 IsHeard heard pieces = (end : Heard) × (heard_pieces heard pieces ≡ Some end)
 
 -- a value that may come is heard, and what follows it may come after it
-value_comes : (heard : Heard) (other : Setting) (value : Text) (more : List Piece)
+value_comes : (heard : Heard) (other : Setting) (value : Bytes) (more : List Part)
     → ((option : Setting) → (end : Option ℕ) × (number_after (number_heard heard option) (values_after_value other value more option) ≡ Some end))
-    → (verb : Verb) → verb_after_all heard.verb (rest more) ≡ Some verb
+    → (verb : Verb) → verb_after_all heard.verb (own_words more) ≡ Some verb
     → (next : Heard) × (heard_value heard other value ≡ Some next) × HasNumbersAfter next more × HasVerbAfter next more
 value_comes heard other value more numbers verb told =
     let first = number_first heard other value (values other more) (numbers other).0 (numbers other).1 in
@@ -198,10 +198,10 @@ value_comes heard other value more numbers verb told =
       with_number heard other n,
       rw (first.0, first.2) refl,
       λ option. ((numbers option).0, sym (number_step heard option other value n (values option more) first.0 first.2) ∙ (numbers option).1),
-      (verb, ap (λ (x : Verb). verb_after_all x (rest more)) (value_kept heard other n).0 ∙ told),
+      (verb, ap (λ (x : Verb). verb_after_all x (own_words more)) (value_kept heard other n).0 ∙ told),
     )
 
-pub pieces_come : (pieces : List Piece) (heard : Heard) → HasNumbersAfter heard pieces → HasVerbAfter heard pieces → IsHeard heard pieces
+pub pieces_come : (pieces : List Part) (heard : Heard) → HasNumbersAfter heard pieces → HasVerbAfter heard pieces → IsHeard heard pieces
 pieces_come [] heard numbers verb = (heard, refl)
 pieces_come (apart other value ∷ more) heard numbers verb =
     let next = value_comes heard other value more numbers verb.0 verb.1 in
@@ -212,7 +212,7 @@ pieces_come (joined other value ∷ more) heard numbers verb =
     let end = pieces_come more next.0 next.2 next.3 in
     (end.0, rw next.1 end.1)
 pieces_come (alone word ∷ more) heard numbers (end, told) =
-    let first = first_step (verb_after heard.verb word) (λ next. verb_after_all next (rest more)) end told in
+    let first = first_step (verb_after heard.verb word) (λ next. verb_after_all next (own_words more)) end told in
     let next : Heard = record heard { verb = first.0 } in
     let end = pieces_come more next (λ option. ((numbers option).0, ap (λ (x : Option ℕ). number_after x (values option more)) (other_verb heard first.0 option) ∙ (numbers option).1)) (end, first.2) in
     (end.0, ap (λ (x : Option Verb). option_and_then (λ next. heard_pieces next more) (option_map (λ verb. record heard { verb = verb }) x)) first.1 ∙ end.1)

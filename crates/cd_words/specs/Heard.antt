@@ -4,7 +4,7 @@ use Rattle.std.specs.Borrow.{Bor}
 use Rattle.std.specs.Str.{bytes_eq}
 use Rattle.clap.specs.Words.{Row, all_of}
 use Rattle.cd_base.specs.declared.limits.Limits.{Limits}
-use Rattle.cd_words.specs.Form.{Text, limit, numeral, standard}
+use Rattle.cd_words.specs.Form.{Bytes, limit, numeral, usual_limit}
 use Rattle.cd_words.specs.declared.request.Command.{Command}
 use Rattle.cd_words.specs.declared.request.Command.TheVariants as command
 use Rattle.cd_words.specs.declared.heard.Heard.{Heard}
@@ -19,10 +19,10 @@ IsVerb heard (command.Trial n) = (heard ≡ verb.Trial (Some n)) × (n ≤ 20000
 
 -- the limits are the numbers that were heard, and the standard ones where none was
 pub record HasNumbers (heard : Heard) (limits : Limits) : Type 0 where
-  pub workers : unwrap_or heard.workers (standard Workers) ≡ limits.workers
-  pub cells : unwrap_or heard.cells (standard Cells) ≡ limits.cells
-  pub max_contexts : unwrap_or heard.max_contexts (standard MaxContexts) ≡ limits.max_contexts
-  pub max_facts : unwrap_or heard.max_facts (standard MaxFacts) ≡ limits.max_facts
+  pub workers : unwrap_or heard.workers (usual_limit Workers) ≡ limits.workers
+  pub cells : unwrap_or heard.cells (usual_limit Cells) ≡ limits.cells
+  pub max_contexts : unwrap_or heard.max_contexts (usual_limit MaxContexts) ≡ limits.max_contexts
+  pub max_facts : unwrap_or heard.max_facts (usual_limit MaxFacts) ≡ limits.max_facts
   pub max_bytes : limits.max_bytes ≡ 268435456
 
 -- the words were complete, and ask for the command under the limits
@@ -34,16 +34,16 @@ pub record IsHeardAs (heard : Heard) (request : Command) (limits : Limits) : Typ
 -- ---- by what was found
 
 -- the texts that a slice of references has
-abbrev pub texts_of : Option (Bor (List (Bor Text))) → Option (List Text)
+abbrev pub texts_of : Option (Bor (List (Bor Bytes))) → Option (List Bytes)
 texts_of = option_map (λ words. map (λ word. word.now) words.now)
 
 -- the number of one numeral
-abbrev pub number_found : Option (List Text) → Option ℕ
+abbrev pub number_found : Option (List Bytes) → Option ℕ
 number_found (Some (value ∷ [])) = numeral value
 number_found other = None
 
 -- `classify`, or `trial` and its number
-abbrev pub verb_found : Option (List Text) → Verb
+abbrev pub verb_found : Option (List Bytes) → Verb
 verb_found (Some (word ∷ [])) = if bytes_eq word (codes "classify") then verb.Classify else verb.Missing
 verb_found (Some (word ∷ size ∷ [])) = if bytes_eq word (codes "trial") then verb.Trial (numeral size) else verb.Missing
 verb_found other = verb.Missing
