@@ -6,7 +6,7 @@ use Rattle.cd_base.specs.declared.limits.Limits.{Limits}
 use Rattle.cd_words.specs.declared.request.AskFault.{AskFault}
 use Rattle.cd_words.specs.declared.request.Command.{Command}
 use Rattle.cd_words.specs.declared.request.Command.TheVariants.{Classify, Trial}
-use Rattle.cd_words.specs.Form.{Text, Asks, AsksOnly, HaveSameNumbers}
+use Rattle.cd_words.specs.Form.{Bytes, Asks, AsksOnly, HaveSameNumbers}
 use Rattle.cd_top.specs.declared.status.Status.TheVariants.{Limit, Memory}
 use Rattle.cd_top.specs.Status.{code_of, status_of}
 
@@ -25,7 +25,7 @@ same_numbers P one other same p =
     subst (λ z. P one.max_bytes one.max_contexts z) (sym same.max_facts)
     (subst (λ z. P one.max_bytes z other.max_facts) (sym same.max_contexts) (subst (λ z. P z other.max_contexts other.max_facts) (sym same.max_bytes) p))
 
-module _ (words : List Text) (command : Command) (limits : Limits) (only : AsksOnly words command limits) where
+module _ (words : List Bytes) (command : Command) (limits : Limits) (only : AsksOnly words command limits) where
   pub not_trial : command ≡ Classify → (n : ℕ) (others : Limits) → Asks words (Trial n) others → ⊥
   not_trial is n others asks = let e : suc n ≡ 0 = ap code ((only (Trial n) others asks).0 ∙ is) in absurd (omega (arith, e))
 

@@ -2,7 +2,7 @@
 use Rattle.std.proofs.Common.{◌≡◌, ℕ, ◌<◌, ◌⊎◌, ◌||◌, ◌&&◌, ◌==◌, inl, inr, nat_lt, Bool, true, List, refl, subst, arith, eqb-true, eq-eqb}
 use Rattle.std.proofs.lemmas.Bool.{and_parts, and_from, or_cases, or_left, or_right, ltb-true, lt-ltb}
 use Rattle.cd_base.specs.Lists.{Member}
-use Rattle.cd_base.specs.Normal.{Under, same, step, has_roles_below, has_numbers_below}
+use Rattle.cd_base.specs.Normal.{Under, same, step, has_roles_below, is_triple_below}
 use Rattle.cd_base.specs.declared.normal.Normal.{Normal}
 use Rattle.cd_base.specs.declared.normal.RolePair.{RolePair}
 use Rattle.cd_base.specs.declared.normal.Triple.{Triple}
@@ -19,7 +19,7 @@ module _ (n : Normal) where
 
   triple_within : (t : Triple) → Member t n.n2 → t.role < n.roles
   triple_within t m =
-      let h = all_member (has_numbers_below n.atoms n.roles) n.n2 n.n2_within t m in
+      let h = all_member (is_triple_below n.atoms n.roles) n.n2 n.n2_within t m in
       let b = and_parts (nat_lt t.atom n.atoms && nat_lt t.role n.roles) (nat_lt t.other n.atoms) h in
       ltb-true t.role n.roles (and_parts (nat_lt t.atom n.atoms) (nat_lt t.role n.roles) b.0).1
 

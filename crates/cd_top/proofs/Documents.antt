@@ -21,7 +21,7 @@ use Rattle.cd_normal.specs.Method.{IsByMethod}
 use Rattle.cd_normal.specs.Uses.{Label}
 use Rattle.cd_normal.proofs.FitsAxioms.{extends}
 use Rattle.cd_normal.proofs.RestrictAxioms.{restricts}
-use Rattle.cd_taxonomy.specs.Relation.{is_below, relation, IsWithin, IsSubsumption}
+use Rattle.cd_taxonomy.specs.Relation.{is_superclass, relation, IsWithin, IsSubsumption}
 use Rattle.cd_top.specs.Answers.{AreAnswers}
 
 module _ (document : Document) (n : Normal) (m : IsByMethod document n) where
@@ -76,7 +76,7 @@ module _ (document : Document) (n : Normal) (m : IsByMethod document n) where
 
   -- an exact context's answer says what the document entails of its class
   pub answer_decides : (a : ℕ) → a < classes → (live : List (List Elem)) (answer : Answer) → Exact n a live → IsAnswerOf n live answer
-      → (b : ℕ) → b < classes → IsTrue (is_below answer b) ↔ Entails document.axioms a b
+      → (b : ℕ) → b < classes → IsTrue (is_superclass answer b) ↔ Entails document.axioms a b
   answer_decides a la live Unsatisfiable x is b lb = (λ h. none_entailed a b la (x.empty_none is), λ h. refl)
   answer_decides a la live (Of atoms) x is b lb = (
     λ h. all_entailed a b la lb (x.single_all b ((is.2 b).0 (member_from atoms b h)).1),

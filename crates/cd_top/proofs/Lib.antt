@@ -1,4 +1,5 @@
 pub mod Answered
+pub mod Answering
 pub mod Asked
 pub mod Closures
 pub mod Complete
@@ -6,7 +7,14 @@ pub mod CoreRuns
 pub mod Documents
 pub mod Fronts
 pub mod LeastTrial
+pub mod Renumbering
+pub mod Restated
+pub mod RestatedAxioms
+pub mod RestatedLines
+pub mod RestatedNames
+pub mod RestatedTokens
 pub mod Runs
-pub mod Said
+pub mod SameAnswer
+pub mod SomeText
 pub mod Told
 pub mod Trials

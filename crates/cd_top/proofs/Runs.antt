@@ -59,7 +59,6 @@ module _ (n : Normal) (count : ℕ) (cells : List CellState) (are : AreNew n cou
     place = λ i c at. ap (λ (c : CellState). c.number) (are.are i c at);
     places = λ i c at. ap (λ (c : CellState). c.cells) (are.are i c at) ∙ sym are.each;
     family = λ i j c d ic jd. ap (λ (c : CellState). (c.cells, c.normal)) (are.are i c ic) ∙ sym (ap (λ (c : CellState). (c.cells, c.normal)) (are.are j d jd));
-    lawful = λ i j c d ic jd p m l. subst (λ (d : CellState). IsLawfulNote d.normal d.cells p m) (sym (are.are j d jd)) (subst (λ (c : CellState). IsLawfulNote c.normal c.cells p m) (are.are i c ic) l);
     whole = λ i c at. subst IsWhole (sym (are.are i c at)) (is_whole i (below i c at));
   }
 

@@ -2,7 +2,7 @@
 ghost use Rattle.std.specs.Prelude.{◌≡◌, ◌<◌, ◌-◌, ◌+◌, ◌*◌, ◌^◌, ℕ, length, All, IfOk, Err};
 ghost use Rattle.cd_base.specs.Iri.{IsIri};
 ghost use Rattle.cd_base.specs.declared.limit_kind.LimitKind.{LimitKind};
-ghost use Rattle.cd_meaning.specs.Answer.{IsAnswer, SaysEntailed};
+ghost use Rattle.cd_meaning.specs.Answer.{IsAnswer};
 ghost use Rattle.cd_meaning.specs.Nodes.{nodes};
 ghost use Rattle.cd_top.specs.Answers.{AreAnswers};
 ghost use Rattle.cd_top.specs.Limit.{IsReached};
@@ -22,7 +22,6 @@ pub(crate) fn answer_to(
     requires few { length document.now.classes + 6 * nodes document.now.axioms < 2 ^ 32 - 1 }
     requires iris { All IsIri document.now.classes }
     ensures answer { IfOk result (λ text. IsAnswer document.now text.items) }
-    ensures said { IfOk result (λ text. SaysEntailed document.now text.items) }
     ensures limit { (kind : LimitKind) (number : ℕ) → result ≡ Err (Halt.Limit kind number)
         → IsReached document.now limits.now.max_contexts limits.now.max_facts kind number }
 {
@@ -41,7 +40,6 @@ fn text_of(alloc: Global, document: &Document, above: &[Answer]) -> Result<Vec<u
     requires answers { AreAnswers document.now above.now }
     requires iris { All IsIri document.now.classes }
     ensures answer { IfOk result (λ text. IsAnswer document.now text.items) }
-    ensures said { IfOk result (λ text. SaysEntailed document.now text.items) }
 {
     let found = taxonomy(alloc, document, above)?;
     let bytes = text(alloc, document, &found)?;

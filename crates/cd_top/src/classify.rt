@@ -1,10 +1,10 @@
 //! The classify command, but for the notes.
-ghost use Rattle.std.specs.Prelude.{◌≡◌, ◌≤◌, true, length, List, ℕ, Some, Err, [], IfSome, IfOk, OnOk, IsErrOf};
+ghost use Rattle.std.specs.Prelude.{◌≡◌, ◌≤◌, ◌<◌, ◌+◌, true, false, length, List, ℕ, Some, Err, [], IfSome, IfOk, OnOk, OnErr, IsErrOf};
 ghost use Rattle.std.specs.Io.KnownBytes.{Appends};
 ghost use Rattle.cd_io.specs.Causes.{Rose, HasCause};
-ghost use Rattle.cd_io.specs.Streams.{AppendsFront};
-ghost use Rattle.cd_top.specs.Headline.{IsAccepted, IsAnswered, IsClassified, IsLimited, IsPartlyAnswered};
-ghost use Rattle.cd_grammar.specs.Reading.{IsRefused};
+ghost use Rattle.cd_io.specs.Streams.{AppendsFront, LosesAtMost};
+ghost use Rattle.cd_top.specs.Headline.{IsAnswered, IsClassified, IsLimited, IsPartlyAnswered};
+ghost use Rattle.cd_grammar.specs.Refusal.{IsRefused};
 ghost use Rattle.cd_grammar.specs.declared.refusal.Refusal.{Refusal};
 ghost use Rattle.cd_base.specs.declared.limit_kind.LimitKind.{LimitKind};
 ghost use Rattle.cd_top.specs.Status.{IsEarly};
@@ -46,14 +46,16 @@ pub(crate) fn classify<S: Source, K: Sink>(
     // Each other status has its cause.
     ensures usage { result ≡ Status.Usage → ⊥ }
     ensures read_fault { result ≡ Status.ReadFault → Rose (S.faults source.old) (S.faults source.new) }
+    ensures unended { result ≡ Status.ReadFault → S.ended source.new ≡ false }
     ensures write_fault { result ≡ Status.WriteFault → Rose (K.faults out.old) (K.faults out.new) }
+    ensures unfinished { result ≡ Status.WriteFault → K.finished out.new ≡ false }
     ensures refused { IfSome (S.left source.old) (λ input. (refusal : Refusal) → result ≡ Status.Refused refusal
         → IsRefused input limits.now.max_bytes refusal) }
     ensures limit { IfSome (S.left source.old) (λ input. (kind : LimitKind) (number : ℕ) → result ≡ Status.Limit kind number
         → IsLimited input limits.now.max_bytes limits.now.max_contexts limits.now.max_facts kind number) }
-    ensures unaccepted { IfSome (S.left source.old) (λ input. (IsAccepted input limits.now.max_bytes → ⊥) → IsEarly result) }
 
     // What stands after it.
+    ensures taken { LosesAtMost (S.left source.old) (S.left source.new) (limits.now.max_bytes + 1) }
     ensures unwritten { IsEarly result → out.new ≡ out.old }
     ensures partly { IfSome (S.left source.old) (λ input. result ≡ Status.WriteFault →
         IsPartlyAnswered input limits.now.max_bytes (K.written out.old) (K.written out.new)) }
@@ -74,8 +76,11 @@ pub(crate) fn classify<S: Source, K: Sink>(
 fn answer_of<S: Source>(alloc: Global, source: &mut S, limits: &Limits) -> Result<Vec<u8>, Stop>
     ensures answered { IfSome (S.left source.old) (λ input. IfOk result (λ text.
         (length input ≤ limits.now.max_bytes) × (S.left source.new ≡ Some []) × IsAnswered input text.items)) }
+    ensures some { IfOk result (λ text. 0 < length text.items) }
     ensures ended { OnOk result (S.ended source.new ≡ true) }
+    ensures taken { LosesAtMost (S.left source.old) (S.left source.new) (limits.now.max_bytes + 1) }
     ensures read_fault { IsErrOf result Stop.ReadFault → Rose (S.faults source.old) (S.faults source.new) }
+    ensures unended { IsErrOf result Stop.ReadFault → S.ended source.new ≡ false }
     ensures refused { IfSome (S.left source.old) (λ input. (refusal : Refusal) → result ≡ Err (Stop.Refused refusal)
         → IsRefused input limits.now.max_bytes refusal) }
     ensures limit { IfSome (S.left source.old) (λ input. (kind : LimitKind) (number : ℕ) → result ≡ Err (Stop.Limit kind number)
@@ -100,6 +105,7 @@ pub(crate) fn publish<K: Sink>(out: &mut K, text: &[u8]) -> Result<(), WriteFaul
     ensures finished { OnOk result (K.finished out.new ≡ true) }
     ensures front { AppendsFront (K.written out.old) (K.written out.new) text.now }
     ensures cause { HasCause (K.faults out.old) (K.faults out.new) result }
+    ensures unfinished { 0 < length text.now → OnErr result (K.finished out.new ≡ false) }
 {
     write_all(out, text)?;
     match out.finish() {

@@ -1,10 +1,11 @@
 //! The command words, and the line on the notes.
-ghost use Rattle.std.specs.Prelude.{◌≡◌, ◌≤◌, ◌⊎◌, ◌↔◌, true, IfSome, List, ℕ, map, string_bytes};
+ghost use Rattle.std.specs.Prelude.{◌≡◌, ◌≤◌, ◌+◌, ◌⊎◌, ◌↔◌, true, false, IfSome, List, ℕ, map, string_bytes};
 ghost use Rattle.cd_io.specs.Causes.{Rose};
+ghost use Rattle.cd_io.specs.Streams.{LosesAtMost};
 ghost use Rattle.cd_base.specs.declared.limits.Limits.{Limits};
-ghost use Rattle.cd_top.specs.Headline.{standard_bytes, IsAccepted, IsAnswerable, IsClassified, IsLimited, IsPartlyAnswered};
+ghost use Rattle.cd_top.specs.Headline.{standard_bytes, IsAnswerable, IsClassified, IsLimited, IsPartlyAnswered};
 ghost use Rattle.cd_top.specs.Trial.{IsTried, IsPartlyTried, IsTrialLimited, IsTrialAnswerable};
-ghost use Rattle.cd_grammar.specs.Reading.{IsRefused};
+ghost use Rattle.cd_grammar.specs.Refusal.{IsRefused};
 ghost use Rattle.cd_grammar.specs.declared.refusal.Refusal.{Refusal};
 ghost use Rattle.cd_base.specs.declared.limit_kind.LimitKind.{LimitKind};
 ghost use Rattle.cd_top.specs.Status.{line_of, status_of, IsEarly, IsNoted};
@@ -42,20 +43,25 @@ pub fn run<S: Source, K: Sink, E: Sink>(
     // Each other status has its cause.
     ensures usage { (result ≡ Status.Usage) ↔ (IsOfForm (map string_bytes words.now) → ⊥) }
     ensures read_fault { result ≡ Status.ReadFault → Rose (S.faults source.old) (S.faults source.new) }
+    ensures unended { result ≡ Status.ReadFault → S.ended source.new ≡ false }
     ensures write_fault { result ≡ Status.WriteFault → Rose (K.faults out.old) (K.faults out.new) }
+    ensures unfinished { result ≡ Status.WriteFault → K.finished out.new ≡ false }
     ensures refused { IfSome (S.left source.old) (λ input. (refusal : Refusal) → result ≡ Status.Refused refusal
         → IsRefused input standard_bytes refusal) }
     ensures limit { (limits : Limits) → Asks (map string_bytes words.now) Command.Classify limits
         → IfSome (S.left source.old) (λ input. (kind : LimitKind) (number : ℕ) → result ≡ Status.Limit kind number
         → IsLimited input limits.max_bytes limits.max_contexts limits.max_facts kind number) }
-    ensures unaccepted { (limits : Limits) → Asks (map string_bytes words.now) Command.Classify limits
-        → IfSome (S.left source.old) (λ input. (IsAccepted input limits.max_bytes → ⊥) → IsEarly result) }
 
     // An accepted input by which no maximum is reached is answered unless a fault rose or memory ran out.
     ensures complete { (limits : Limits) → Asks (map string_bytes words.now) Command.Classify limits
         → IfSome (S.left source.old) (λ input. IsAnswerable input limits.max_bytes limits.max_contexts limits.max_facts
         → (Rose (S.faults source.old) (S.faults source.new) → ⊥) → (Rose (K.faults out.old) (K.faults out.new) → ⊥)
         → (result ≡ Status.Done) ⊎ (result ≡ Status.Memory)) }
+
+    // An input that is refused gives just that refusal, with its kind and place, unless a fault rose or memory ran out.
+    ensures refused_where { (limits : Limits) → Asks (map string_bytes words.now) Command.Classify limits
+        → IfSome (S.left source.old) (λ input. (refusal : Refusal) → IsRefused input standard_bytes refusal
+        → (Rose (S.faults source.old) (S.faults source.new) → ⊥) → (result ≡ Status.Refused refusal) ⊎ (result ≡ Status.Memory)) }
 
     // A trial of n levels: exactly one text was written, the summary of what the generated document entails.
     ensures tried { (n : ℕ) (limits : Limits) → Asks (map string_bytes words.now) (Command.Trial n) limits
@@ -73,6 +79,7 @@ pub fn run<S: Source, K: Sink, E: Sink>(
     ensures trial_read_fault { (n : ℕ) (limits : Limits) → Asks (map string_bytes words.now) (Command.Trial n) limits → result ≡ Status.ReadFault → ⊥ }
 
     // What stands after it.
+    ensures taken { LosesAtMost (S.left source.old) (S.left source.new) (standard_bytes + 1) }
     ensures unread { result ≡ Status.Usage → source.new ≡ source.old }
     ensures unwritten { IsEarly result → out.new ≡ out.old }
     ensures partly { (limits : Limits) → Asks (map string_bytes words.now) Command.Classify limits
@@ -113,19 +120,25 @@ pub fn classify_here<S: Source, K: Sink, E: Sink>(
     // Each other status has its cause.
     ensures usage { result ≡ Status.Usage → ⊥ }
     ensures read_fault { result ≡ Status.ReadFault → Rose (S.faults source.old) (S.faults source.new) }
+    ensures unended { result ≡ Status.ReadFault → S.ended source.new ≡ false }
     ensures write_fault { result ≡ Status.WriteFault → Rose (K.faults out.old) (K.faults out.new) }
+    ensures unfinished { result ≡ Status.WriteFault → K.finished out.new ≡ false }
     ensures refused { IfSome (S.left source.old) (λ input. (refusal : Refusal) → result ≡ Status.Refused refusal
         → IsRefused input limits.now.max_bytes refusal) }
     ensures limit { IfSome (S.left source.old) (λ input. (kind : LimitKind) (number : ℕ) → result ≡ Status.Limit kind number
         → IsLimited input limits.now.max_bytes limits.now.max_contexts limits.now.max_facts kind number) }
-    ensures unaccepted { IfSome (S.left source.old) (λ input. (IsAccepted input limits.now.max_bytes → ⊥) → IsEarly result) }
 
     // An accepted input by which no maximum is reached is answered unless a fault rose or memory ran out.
     ensures complete { IfSome (S.left source.old) (λ input. IsAnswerable input limits.now.max_bytes limits.now.max_contexts limits.now.max_facts →
         (Rose (S.faults source.old) (S.faults source.new) → ⊥) → (Rose (K.faults out.old) (K.faults out.new) → ⊥)
         → (result ≡ Status.Done) ⊎ (result ≡ Status.Memory)) }
 
+    // An input that is refused gives just that refusal, with its kind and place, unless a fault rose or memory ran out.
+    ensures refused_where { IfSome (S.left source.old) (λ input. (refusal : Refusal) → IsRefused input limits.now.max_bytes refusal
+        → (Rose (S.faults source.old) (S.faults source.new) → ⊥) → (result ≡ Status.Refused refusal) ⊎ (result ≡ Status.Memory)) }
+
     // What stands after it.
+    ensures taken { LosesAtMost (S.left source.old) (S.left source.new) (limits.now.max_bytes + 1) }
     ensures unwritten { IsEarly result → out.new ≡ out.old }
     ensures partly { IfSome (S.left source.old) (λ input. result ≡ Status.WriteFault →
         IsPartlyAnswered input limits.now.max_bytes (K.written out.old) (K.written out.new)) }

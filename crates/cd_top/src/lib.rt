@@ -7,7 +7,8 @@
 //! works the cells with the contexts until each conclusion is redundant (`cd_core`, `cd_cell`), `answers` asks them for the superclasses
 //! of each class, and `answer` has `cd_taxonomy` write the text. `classify` reads, answers and writes. `trial` takes the same road with
 //! the document that `cd_gen` makes, up to the taxonomy, and writes its summary. `command` has `cd_words` look at the words before it,
-//! and `notes` puts a line on the notes after it. `status` has the ways in which a run ends.
+//! and `notes` puts a line on the notes after it. `status` has the ways in which a run ends. `laws` says of the definitions that an
+//! answer is a document that says the same as the input.
 //!
 //! Nothing is written before the whole answer is there. So the output is as it was where the input is refused, a read fails or
 //! memory runs out, and after a write that failed it has a front of the one right text, never a part of another.
@@ -24,12 +25,16 @@ mod answers;
 mod classify;
 mod command;
 mod indexing;
+mod laws;
 mod notes;
 mod saturation;
 mod status;
 mod trial;
 
 pub use command::{classify_here, run};
+pub use laws::{
+    answer_is_restated, has_one_text, is_below_in_every_structure, same_have_same_answer,
+};
 pub use status::Status;
 
 #[cfg(test)]
@@ -38,3 +43,5 @@ mod core_tests;
 mod small_ontologies;
 #[cfg(test)]
 mod tests;
+#[cfg(test)]
+mod zoo;

@@ -4,7 +4,7 @@ ghost use Rattle.std.specs.Io.KnownBytes.{Appends};
 ghost use Rattle.cd_io.specs.Causes.{HasCause};
 ghost use Rattle.cd_io.specs.Streams.{AppendsFront};
 ghost use Rattle.cd_top.specs.Status.{IsNoted, has_fixed_line, line_of, limit_line, refusal_line, construct_line, word_or_none, numbered};
-ghost use Rattle.cd_grammar.specs.Words.{word_of};
+ghost use Rattle.cd_grammar.specs.Constructs.{word_of};
 
 use crate::status::Status;
 use cd_base::LimitKind;

@@ -1,5 +1,5 @@
 //! The trial command: the summary of a generated document.
-ghost use Rattle.std.specs.Prelude.{◌≡◌, ◌≤◌, ◌⊎◌, true, ℕ, Err, IfOk};
+ghost use Rattle.std.specs.Prelude.{◌≡◌, ◌≤◌, ◌⊎◌, true, false, ℕ, Err, IfOk};
 ghost use Rattle.cd_base.specs.declared.limit_kind.LimitKind.{LimitKind};
 ghost use Rattle.cd_grammar.specs.declared.refusal.Refusal.{Refusal};
 ghost use Rattle.cd_io.specs.Causes.{Rose};
@@ -42,6 +42,7 @@ pub(crate) fn trial_here<K: Sink, E: Sink>(
     ensures refused { (refusal : Refusal) → result ≡ Status.Refused refusal → ⊥ }
     ensures read_fault { result ≡ Status.ReadFault → ⊥ }
     ensures write_fault { result ≡ Status.WriteFault → Rose (K.faults out.old) (K.faults out.new) }
+    ensures unfinished { result ≡ Status.WriteFault → K.finished out.new ≡ false }
     ensures limit { (kind : LimitKind) (number : ℕ) → result ≡ Status.Limit kind number
         → IsTrialLimited levels limits.now.max_contexts limits.now.max_facts kind number }
 
@@ -70,6 +71,7 @@ fn trial<K: Sink>(alloc: Global, levels: u32, out: &mut K, limits: &Limits) -> S
     ensures refused { (refusal : Refusal) → result ≡ Status.Refused refusal → ⊥ }
     ensures read_fault { result ≡ Status.ReadFault → ⊥ }
     ensures write_fault { result ≡ Status.WriteFault → Rose (K.faults out.old) (K.faults out.new) }
+    ensures unfinished { result ≡ Status.WriteFault → K.finished out.new ≡ false }
     ensures limit { (kind : LimitKind) (number : ℕ) → result ≡ Status.Limit kind number
         → IsTrialLimited levels limits.now.max_contexts limits.now.max_facts kind number }
     ensures unwritten { IsEarly result → out.new ≡ out.old }

@@ -19,4 +19,4 @@ subsumers-requires-clause-here c =
 pub returns : goal.returns
 returns c =
     let lt = subst (λ p. p < length c.args.cells.now) (sym c.cell_of-place.ensures) (at_below _ _ _ c.requires.begun.1) in
-    answer_here c.args.count c.args.class c.cell_of-place.result c.args.cells.now c.index-cells-place.result (at_index c.args.cells.now c.cell_of-place.result c.index-cells-place.result lt c.index-cells-place.is) c.cell_of-place.ensures c.in_ok-answer.answer c.in_ok-answer.ensures
+    answer_here c.args.count c.args.class c.cell_of-place.result c.args.cells.now c.index-cells-place.result (at_index c.args.cells.now c.cell_of-place.result c.index-cells-place.result lt c.index-cells-place.is) c.cell_of-place.ensures c.in_ok-answer.answer c.in_ok-answer.ensures.answer

@@ -1,4 +1,4 @@
-use Rattle.std.proofs.Common.{List, ℕ, subst}
+use Rattle.std.proofs.Common.{◌<◌, List, ℕ, length, sym, subst}
 use Rattle.std.specs.Io.KnownBytes.{Appends}
 use Rattle.cd_io.specs.Streams.{AppendsFront}
 use Rattle.std.proofs.lemmas.Option.{IfSome_then}
@@ -16,13 +16,8 @@ returns-in-Ok-publish-clause-done g c =
       );
     })
 
-pub returns-in-Ok-publish-clause-unaccepted : goal.returns-in-Ok-publish-clause-unaccepted
-returns-in-Ok-publish-clause-unaccepted g c =
-    IfSome_then (g.S.Source.left c.args.source.now) c.in-Ok.ensures.answered (λ input is refused. refused (is.0, is.2.0, is.2.1))
-
-pub returns-in-Ok-clause-unaccepted : goal.returns-in-Ok-clause-unaccepted
-returns-in-Ok-clause-unaccepted g c =
-    IfSome_then (g.S.Source.left c.args.source.now) c.in-Ok.ensures.answered (λ input is refused. refused (is.0, is.2.0, is.2.1))
+pub returns-in-Ok-clause-unfinished : goal.returns-in-Ok-clause-unfinished
+returns-in-Ok-clause-unfinished g c failed = c.in-Err.ensures.unfinished (subst (λ (bs : List ℕ). 0 < length bs) (sym c.deref.ensures.value) c.in-Ok.ensures.some)
 
 pub returns-in-Ok-clause-partly : goal.returns-in-Ok-clause-partly
 returns-in-Ok-clause-partly g c =

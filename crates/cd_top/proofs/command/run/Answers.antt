@@ -1,14 +1,16 @@
-use Rattle.std.proofs.Common.{◌≡◌, ◌⊎◌, ℕ, ap, subst, sym, ◌∙◌, inr, map, string_bytes, Err}
+use Rattle.std.proofs.Common.{◌≡◌, ◌⊎◌, ◌+◌, ℕ, ap, subst, sym, ◌∙◌, inr, map, string_bytes, Err}
 use Rattle.std.specs.Prelude.{IfSome}
 use Rattle.cd_base.specs.declared.limit_kind.LimitKind.{LimitKind}
 use Rattle.cd_grammar.specs.declared.refusal.Refusal.{Refusal}
-use Rattle.cd_grammar.specs.Reading.{IsRefused}
+use Rattle.cd_grammar.specs.Refusal.{IsRefused}
 use Rattle.cd_io.specs.Causes.{Rose}
+use Rattle.cd_io.specs.Streams.{LosesAtMost}
 use Rattle.cd_words.specs.Form.{Asks, IsOfForm}
 use Rattle.cd_top.specs.declared.status.Status.{Status}
-use Rattle.cd_top.specs.Headline.{IsAccepted, IsAnswerable, IsLimited, IsPartlyAnswered}
-use Rattle.cd_top.specs.Status.{IsEarly}
+use Rattle.cd_top.specs.Headline.{IsAnswerable, IsLimited, IsPartlyAnswered}
 use Rattle.cd_top.specs.Trial.{IsTried, IsPartlyTried, IsTrialLimited, IsTrialAnswerable}
+use Rattle.cd_top.proofs.Complete.{Refuses}
+use Rattle.cd_io.proofs.Losing.{loses_none}
 use Rattle.cd_top.proofs.Asked.{not_trial, not_classify, classify_too, trial_too, memory_ends, no_limit, if_some}
 use Rattle.cd_top.proofs.LeastTrial.{levels_least}
 use Rattle.cd_top.proofs.command.run.Goals as goal
@@ -29,11 +31,16 @@ returns-in-Classify-clause-limit g c limits asks =
     (λ most contexts facts. IfSome (g.S.Source.left c.args.source.now) (λ input. (kind : LimitKind) (number : ℕ) → c.classify_here.result ≡ Status.Limit kind number → IsLimited input most contexts facts kind number))
     limits asks c.classify_here.ensures.limit
 
-pub returns-in-Classify-clause-unaccepted : goal.returns-in-Classify-clause-unaccepted
-returns-in-Classify-clause-unaccepted g c limits asks =
-    classify_too (map string_bytes c.args.words.now) c.in-Ok.asked.command c.in-Ok.asked.limits c.in-Ok.ensures.only
-    (λ most contexts facts. IfSome (g.S.Source.left c.args.source.now) (λ input. (IsAccepted input most → ⊥) → IsEarly c.classify_here.result))
-    limits asks c.classify_here.ensures.unaccepted
+pub returns-in-Classify-clause-refused_where : goal.returns-in-Classify-clause-refused_where
+returns-in-Classify-clause-refused_where g c limits asks =
+    subst (λ (most : ℕ). IfSome (g.S.Source.left c.args.source.now) (λ input. (refusal : Refusal) → IsRefused input most refusal
+    → (Rose (g.S.Source.faults c.args.source.now) (g.S.Source.faults c.classify_here.new.source) → ⊥) → Refuses refusal c.classify_here.result))
+    c.in-Ok.ensures.asked.max_bytes c.classify_here.ensures.refused_where
+
+pub returns-in-Classify-clause-taken : goal.returns-in-Classify-clause-taken
+returns-in-Classify-clause-taken g c =
+    subst (λ (most : ℕ). LosesAtMost (g.S.Source.left c.args.source.now) (g.S.Source.left c.classify_here.new.source) (most + 1))
+    c.in-Ok.ensures.asked.max_bytes c.classify_here.ensures.taken
 
 pub returns-in-Classify-clause-complete : goal.returns-in-Classify-clause-complete
 returns-in-Classify-clause-complete g c limits asks =
@@ -88,9 +95,12 @@ pub returns-in-Trial-clause-limit : goal.returns-in-Trial-clause-limit
 returns-in-Trial-clause-limit g c limits asks =
     absurd (not_classify (map string_bytes c.args.words.now) c.in-Ok.asked.command c.in-Ok.asked.limits c.in-Ok.ensures.only c.in-Trial.levels c.in-Trial.is limits asks)
 
-pub returns-in-Trial-clause-unaccepted : goal.returns-in-Trial-clause-unaccepted
-returns-in-Trial-clause-unaccepted g c limits asks =
+pub returns-in-Trial-clause-refused_where : goal.returns-in-Trial-clause-refused_where
+returns-in-Trial-clause-refused_where g c limits asks =
     absurd (not_classify (map string_bytes c.args.words.now) c.in-Ok.asked.command c.in-Ok.asked.limits c.in-Ok.ensures.only c.in-Trial.levels c.in-Trial.is limits asks)
+
+pub returns-in-Trial-clause-taken : goal.returns-in-Trial-clause-taken
+returns-in-Trial-clause-taken g c = loses_none (g.S.Source.left c.args.source.now) (268435456 + 1)
 
 pub returns-in-Trial-clause-complete : goal.returns-in-Trial-clause-complete
 returns-in-Trial-clause-complete g c limits asks =
@@ -132,6 +142,13 @@ returns-in-Trial-clause-trial_partly g c n limits asks =
 pub returns-in-Err-clause-complete : goal.returns-in-Err-clause-complete
 returns-in-Err-clause-complete g c limits asks =
     if_some (g.S.Source.left c.args.source.now) _ (λ input answerable no_read no_write. inr (c.status_of-status.ensures ∙ memory_ends c.in-Err.fault (IsOfForm (map string_bytes c.args.words.now)) (λ e. c.in-Err.ensures.usage.0 (ap (λ f. Err f) e)) (_, limits, asks)))
+
+pub returns-in-Err-clause-refused_where : goal.returns-in-Err-clause-refused_where
+returns-in-Err-clause-refused_where g c limits asks =
+    if_some (g.S.Source.left c.args.source.now) _ (λ input refusal is no_read. inr (c.status_of-status.ensures ∙ memory_ends c.in-Err.fault (IsOfForm (map string_bytes c.args.words.now)) (λ e. c.in-Err.ensures.usage.0 (ap (λ f. Err f) e)) (_, limits, asks)))
+
+pub returns-in-Err-clause-taken : goal.returns-in-Err-clause-taken
+returns-in-Err-clause-taken g c = loses_none (g.S.Source.left c.args.source.now) (268435456 + 1)
 
 pub returns-in-Err-clause-trial_limit : goal.returns-in-Err-clause-trial_limit
 returns-in-Err-clause-trial_limit g c n limits asks kind number e =
