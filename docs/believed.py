@@ -47,8 +47,6 @@ class Block:
 class Spec:
     """A file of specs/: its definitions by each name that they give, and its imports."""
 
-    START = re.compile(r"^(\s*)(?:unfoldable |abbrev )?(?:pub )?(?:abbrev |unfoldable |record |data |mutual )?(?:pub )?(" + NAME.pattern + r")\b(.*)$")
-
     def __init__(self, path):
         self.path, self.imports, self.blocks = path, {}, {}
         lines = read(path)
@@ -107,7 +105,8 @@ def constructors(body):
 
 
 def rust_item(crate, name):
-    """The struct, enum, trait or const of this name in a crate's src/: its file and lines, with the `Model` of a type."""
+    """The struct, enum or trait of this name in a crate's src/: its file, its lines, and those of the file. Of a type with a `Model`,
+    which is all that contracts see of it, the lines of that."""
     folder = os.path.join(TOP, crate, 'src')
     for base, _, files in sorted(os.walk(folder)):
         for file in sorted(files):
