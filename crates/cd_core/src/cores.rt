@@ -116,8 +116,8 @@ impl<A: Actor> Core<A> {
     /// Delivers the oldest messages until nothing pends or a sum has reached its maximum. The cells, which then have all that they owe
     /// each other.
     ///
-    /// `Limit` where a sum has reached its maximum, the contexts first, with that sum and the cells. Nothing is delivered from then on
-    /// (`at_once`). `Memory` where a delivery has wanted for memory, here or before.
+    /// `Limit` where a sum has reached its maximum, the contexts first, with that sum and the cells. Nothing is delivered from then on;
+    /// `at_once` says so as far as the laws of an actor tell one delivery from several to one cell. `Memory` where a delivery has wanted for memory, here or before.
     pub fn finish(self, alloc: Global, limits: &Limits) -> Result<Vec<A>, Stop<A>>
     where
         A: Drop,

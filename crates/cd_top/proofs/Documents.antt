@@ -1,8 +1,8 @@
 -- What normal axioms by the method entail, their document entails.
 use Rattle.std.proofs.Common.{◌≡◌, ◌==◌, ℕ, zero, suc, ◌-◌, ◌<◌, ◌↔◌, IsTrue, Bool, true, false, List, [], ◌∷◌, length, map, get_or, refl, sym, ap, subst, ◌∙◌, inl, inr, arith}
 use Rattle.std.specs.List.{All, list_any}
-use Rattle.std.proofs.lemmas.Bool.{cases_lt, false≢true, both_ways, eqb-true, eq-eqb}
-use Rattle.std.proofs.lemmas.List.{get_or_append_left, get_or-append_right, length-map, get_or-map, length-take}
+use Rattle.std.proofs.lemmas.Bool.{cases_lt, false≢true, eqb-true, eq-eqb}
+use Rattle.std.proofs.lemmas.List.{get_or_append_left, get_or-append_right, length-map, get_or-map}
 use Rattle.cd_base.specs.Keys.{is_named}
 use Rattle.cd_base.specs.Lists.{Member}
 use Rattle.cd_base.specs.declared.answer.Answer.{Answer}
@@ -12,6 +12,7 @@ use Rattle.cd_base.proofs.Members.{all_from_member, any_member, any_by_member}
 use Rattle.cd_clause.specs.declared.elem.Elem.{Elem}
 use Rattle.cd_cell.specs.Exactness.{Exact, NoneIn, AllIn}
 use Rattle.cd_cell.specs.Subsumers.{IsAnswerOf}
+use Rattle.cd_meaning.specs.Answer.{Decides}
 use Rattle.cd_meaning.specs.Entailment.{Entails}
 use Rattle.cd_meaning.specs.Membership.{member}
 use Rattle.cd_meaning.specs.MembershipTable.{member-Name}
@@ -21,8 +22,9 @@ use Rattle.cd_normal.specs.Method.{IsByMethod}
 use Rattle.cd_normal.specs.Uses.{Label}
 use Rattle.cd_normal.proofs.FitsAxioms.{extends}
 use Rattle.cd_normal.proofs.RestrictAxioms.{restricts}
-use Rattle.cd_taxonomy.specs.Relation.{is_superclass, relation, IsWithin, IsSubsumption}
+use Rattle.cd_taxonomy.specs.Relation.{is_superclass, relation, IsWithin}
 use Rattle.cd_top.specs.Answers.{AreAnswers}
+use Rattle.cd_top.proofs.SameAnswer.{subsumption}
 
 module _ (document : Document) (n : Normal) (m : IsByMethod document n) where
   abbrev classes : ℕ
@@ -95,18 +97,6 @@ module _ (document : Document) (n : Normal) (m : IsByMethod document n) where
   answer_within live Unsatisfiable is = tt
   answer_within live (Of atoms) is = all_from_member (λ (atom : ℕ). atom < classes) atoms (λ b h. named_is_class b ((is.2 b).0 h).0)
 
-module _ (document : Document) (above : List Answer)
-    (decided : (a b : ℕ) → a < length document.classes → b < length document.classes → IsTrue (relation above a b) ↔ Entails document.axioms a b) where
-  two_classes : 1 < length document.classes
-  two_classes = omega (arith, length-take 2 document.classes, ap length document.reserved)
-
-  subsumption : IsSubsumption (length document.classes) (relation above)
-  subsumption = record {
-    reflexive = λ a lt. (decided a a lt lt).1 (λ i model x l h. h);
-    transitive = λ a b c la lb lc h k. (decided a c la lc).1 (λ i model x l d. (decided b c lb lc).0 k i model x l ((decided a b la lb).0 h i model x l d));
-    thing = λ a lt. (decided a 0 lt (omega (arith, two_classes))).1 (λ i model x l h. member-Name i x 0);
-    nothing = λ a lt. (decided 1 a two_classes lt).1 (λ i model x l h. absurd (both_ways (member i (Name 1) x) (member-Name i x 1) h));
-  }
-
-  pub are_answers : length above ≡ length document.classes → All (IsWithin (length document.classes)) above → AreAnswers document above
-  are_answers each all = record { each = each; within = all; subsumption = subsumption; decided = decided }
+pub are_answers : (document : Document) (above : List Answer) → Decides document (relation above) → length above ≡ length document.classes
+    → All (IsWithin (length document.classes)) above → AreAnswers document above
+are_answers document above decided each all = record { each = each; within = all; subsumption = subsumption document (relation above) decided; decided = decided }

@@ -40,6 +40,8 @@ pub use status::Status;
 #[cfg(test)]
 mod core_tests;
 #[cfg(test)]
+mod examples;
+#[cfg(test)]
 mod small_ontologies;
 #[cfg(test)]
 mod tests;

@@ -97,7 +97,7 @@ pub(crate) fn has_written(ran: &Ended, out: &str, notes: &str) -> bool {
 }
 
 /// Whether the command answers the input with this text, and says nothing else.
-fn is_answered(rt: &impl Abort, alloc: Global, input: &str, expected: &str) -> bool {
+pub(crate) fn is_answered(rt: &impl Abort, alloc: Global, input: &str, expected: &str) -> bool {
     let ran = run_over_memory(rt, alloc, "classify", input);
     let holds = ran.status == Status::Done && has_written(&ran, expected, "");
     drop(ran);
