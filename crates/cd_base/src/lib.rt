@@ -6,11 +6,13 @@
 
 mod answer;
 mod atom;
+mod kept;
 mod key;
 mod limit_kind;
 mod limits;
 mod lit;
 mod memory;
+mod named;
 mod normal;
 mod role;
 mod seq;
@@ -19,6 +21,7 @@ mod tests;
 
 pub use answer::Answer;
 pub use atom::Atom;
+pub use kept::Kept;
 pub use key::Key;
 pub use limit_kind::LimitKind;
 pub use limits::Limits;

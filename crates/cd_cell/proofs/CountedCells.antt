@@ -7,7 +7,8 @@ use Rattle.cd_base.specs.Lists.{Member, IsApart, collect}
 use Rattle.cd_base.specs.declared.normal.Normal.{Normal}
 use Rattle.cd_base.proofs.Members.{member_cases, map_member, member_map, collect_member}
 use Rattle.cd_actor.specs.Cells.{At, AreCells, total}
-use Rattle.cd_context.specs.Facts.{count, last}
+use Rattle.cd_base.specs.Counts.{last}
+use Rattle.cd_context.specs.Facts.{count}
 use Rattle.cd_context.specs.Justified.{IsContext}
 use Rattle.cd_context.specs.State.{State}
 use Rattle.cd_cell.specs.Cells.{CellState, IsCell, place_of, contexts_of, facts_of, meaning}

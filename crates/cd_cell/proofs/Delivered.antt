@@ -7,7 +7,8 @@ use Rattle.cd_actor.specs.Meaning.{Keeps, Delivers, HasRisen}
 use Rattle.cd_actor.specs.Sends.{sent, Sends}
 use Rattle.cd_base.specs.Lists.{Member, IsApart}
 use Rattle.cd_base.specs.declared.normal.Normal.{Normal}
-use Rattle.cd_context.specs.Facts.{has_fact, same_key, count, last}
+use Rattle.cd_base.specs.Counts.{last}
+use Rattle.cd_context.specs.Facts.{has_fact, same_key, count}
 use Rattle.cd_context.specs.Justified.{IsContext, ClosedLocally}
 use Rattle.cd_context.specs.Owes.{Owes}
 use Rattle.cd_context.specs.State.{State}

@@ -13,7 +13,8 @@ use Rattle.std.proofs.lemmas.Slice.Eq.{slice_eq-Decides}
 use Rattle.cd_actor.proofs.Members.{apart_more}
 use Rattle.cd_base.proofs.Members.{member_map}
 use Rattle.cd_base.specs.Lists.{Member, IsApart}
-use Rattle.cd_context.specs.Facts.{has_fact, same_key, count, last}
+use Rattle.cd_base.specs.Counts.{last}
+use Rattle.cd_context.specs.Facts.{has_fact, same_key, count}
 use Rattle.cd_context.specs.State.{State}
 use Rattle.cd_context.specs.declared.facts.Note.{Note}
 use Rattle.cd_cell.specs.Cells.{state_at, has_note, facts_of}

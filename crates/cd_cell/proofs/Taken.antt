@@ -6,7 +6,8 @@ use Rattle.cd_base.specs.Lists.{Member}
 use Rattle.cd_base.specs.declared.normal.Normal.{Normal}
 use Rattle.cd_context.proofs.Justify.{owed_justified}
 use Rattle.cd_context.specs.Calls.{Sends}
-use Rattle.cd_context.specs.Facts.{has_fact, count, last}
+use Rattle.cd_base.specs.Counts.{last}
+use Rattle.cd_context.specs.Facts.{has_fact, count}
 use Rattle.cd_context.specs.Justified.{IsContext, ClosedLocally}
 use Rattle.cd_context.specs.Owes.{Owes}
 use Rattle.cd_context.specs.State.{State}

@@ -4,7 +4,8 @@ use Rattle.std.specs.Map.{lookup, set_value}
 use Rattle.cd_base.specs.Lists.{IsApart}
 use Rattle.cd_base.specs.declared.normal.Normal.{Normal}
 use Rattle.cd_context.specs.Calls.{Grows}
-use Rattle.cd_context.specs.Facts.{same_key, count, last}
+use Rattle.cd_base.specs.Counts.{last}
+use Rattle.cd_context.specs.Facts.{same_key, count}
 use Rattle.cd_context.specs.Justified.{Justified, IsContext, ClosedLocally}
 use Rattle.cd_context.specs.State.{State}
 use Rattle.cd_context.specs.declared.facts.Fact.{Fact}

@@ -6,7 +6,8 @@ use Rattle.cd_base.specs.Keys.{folded}
 use Rattle.cd_base.specs.Lists.{Member, IsApart}
 use Rattle.cd_base.specs.declared.normal.Normal.{Normal}
 use Rattle.cd_clause.specs.Derivations.{Reachable}
-use Rattle.cd_context.specs.Facts.{has_fact, same_key, count, last}
+use Rattle.cd_base.specs.Counts.{last}
+use Rattle.cd_context.specs.Facts.{has_fact, same_key, count}
 use Rattle.cd_context.specs.Justified.{Justified, IsContext, ClosedLocally}
 use Rattle.cd_context.specs.Owes.{Owes}
 use Rattle.cd_context.specs.State.{State}

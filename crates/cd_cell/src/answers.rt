@@ -28,20 +28,10 @@ fn named_among(alloc: Global, normal: &Normal, atoms: &[Atom]) -> Result<Vec<Ato
     let mut named = Vec::new(alloc);
     let mut rest = atoms;
     'atoms: while let [atom, others @ ..] = rest {
-        if is_named(normal, *atom) {
+        if normal.is_named(*atom) {
             named.push(*atom)?;
         }
         rest = others;
     }
     Ok(named)
-}
-
-/// Whether the atom is a class of the document. Constant time.
-fn is_named(normal: &Normal, atom: Atom) -> bool
-    ensures { result ≡ is_named normal.now atom }
-{
-    match normal.named.items().get(atom.0 as usize) {
-        Some(named) => *named,
-        None => false,
-    }
 }

@@ -3,7 +3,8 @@ ghost use Rattle.std.specs.Prelude.{◌≡◌, ◌⊎◌, ◌+◌, ◌-◌, [], 
 ghost use Rattle.std.specs.Option.{option_copied};
 ghost use Rattle.cd_clause.specs.Derivations.{Reachable};
 ghost use Rattle.cd_context.specs.Justified.{Justified, IsContext, ClosedLocally};
-ghost use Rattle.cd_context.specs.Facts.{count, last};
+ghost use Rattle.cd_base.specs.Counts.{last};
+ghost use Rattle.cd_context.specs.Facts.{count};
 ghost use Rattle.cd_cell.specs.Cells.{has_note, contexts_of, facts_of, state_at};
 ghost use Rattle.cd_cell.specs.Telling.{AreClosed, AreOwed, AreOwn, IsNext, Puts, Takes, Tells};
 

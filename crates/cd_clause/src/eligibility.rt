@@ -28,23 +28,13 @@ pub fn eligible(clause: &Clause, i: usize, normal: &Normal) -> bool
     true
 }
 
-/// Whether the atom is a class of the document. Constant time.
-fn is_named(normal: &Normal, atom: Atom) -> bool
-    ensures { result ≡ is_named normal.now atom }
-{
-    match normal.named.items().get(atom.0 as usize) {
-        Some(named) => *named,
-        None => false,
-    }
-}
-
 /// Whether the first element is at most the second in the order of the calculus.
 fn is_at_most(left: &Elem, right: &Elem, normal: &Normal) -> bool
     ensures { result ≡ is_at_most (rank normal.now left.now) (rank normal.now right.now) }
 {
     match left {
         Elem::Plain(a) => match right {
-            Elem::Plain(b) => is_named(normal, *a) || (!is_named(normal, *b) && a.0 <= b.0),
+            Elem::Plain(b) => normal.is_named(*a) || (!normal.is_named(*b) && a.0 <= b.0),
             Elem::Exist(_, _) => true,
         },
         Elem::Exist(r, k) => match right {

@@ -6,7 +6,8 @@ use Rattle.cd_base.proofs.Members.{member_at, member_get}
 use Rattle.cd_clause.specs.Rules.{by_init, by_neg, by_con, by_ex, by_back, by_dead, by_all}
 use Rattle.cd_clause.specs.declared.elem.Elem.{Elem}
 use Rattle.cd_clause.specs.declared.elem.Elem.TheVariants.{Exist}
-use Rattle.cd_rules.specs.Appends.{Appends}
+use Rattle.cd_base.specs.Appends.{Appends}
+use Rattle.cd_rules.specs.Among.{Among}
 use Rattle.cd_rules.specs.Facts.{ConcludesFrom, IsBack, IsDead, IsPicked}
 use Rattle.cd_rules.specs.Uses.{UsesBack, UsesDead, FromBack, FromDead}
 use Rattle.cd_rules.specs.declared.facts.BackFact.{BackFact}
@@ -52,18 +53,18 @@ dead_from n key clauses f numbers others p d (by_dead c r k h e b s) w = (by_dea
 dead_from n key clauses f numbers others p d (by_all t c b r k m h e hb eb u s) w = absurd w
 
 -- what was appended, of two words for the same clauses
-appends_same : (P R : List Elem → Type 0) (Done : Type 0) (old new : List (List Elem)) → ((d : List Elem) → P d → R d) → ((d : List Elem) → R d → P d) → Appends P Done old new → Appends R Done old new
+appends_same : (P R : List Elem → Type 0) (Done : Type 0) (old new : List (List Elem)) → ((d : List Elem) → P d → R d) → ((d : List Elem) → R d → P d) → Appends Among P Done old new → Appends Among R Done old new
 appends_same P R Done old new f g a = record { added = a.added; follows = a.follows; only = λ d m. f d (a.only d m); every = λ z d r. a.every z d (g d r) }
 
 module _ (n : Normal) (key : List ℕ) (clauses : List (List Elem)) (live numbers : List ℕ) (range : (m : ℕ) → Member m live → m < length clauses) (alive : (m : ℕ) → Member m numbers → Member m live) where
   pub appends_back : (f : BackFact) → ((m : ℕ) → Member m live → HasElem clauses (Exist f.role f.key) m → Member m numbers) → (Done : Type 0) (old new : List (List Elem))
-      → Appends (FromBack n key clauses numbers f) Done old new → Appends (FromBack n key clauses live f) Done old new
+      → Appends Among (FromBack n key clauses numbers f) Done old new → Appends Among (FromBack n key clauses live f) Done old new
   appends_back f every Done old new a = appends_same (FromBack n key clauses numbers f) (FromBack n key clauses live f) Done old new
       (λ d q. back_from n key clauses f numbers live (picks_live clauses f.role f.key live numbers alive) d q.0 q.1)
       (λ d q. back_from n key clauses f live numbers (picks_found clauses f.role f.key live numbers range every) d q.0 q.1) a
 
   pub appends_dead : (f : DeadFact) → ((m : ℕ) → Member m live → HasElem clauses (Exist f.role f.key) m → Member m numbers) → (Done : Type 0) (old new : List (List Elem))
-      → Appends (FromDead n key clauses numbers f) Done old new → Appends (FromDead n key clauses live f) Done old new
+      → Appends Among (FromDead n key clauses numbers f) Done old new → Appends Among (FromDead n key clauses live f) Done old new
   appends_dead f every Done old new a = appends_same (FromDead n key clauses numbers f) (FromDead n key clauses live f) Done old new
       (λ d q. dead_from n key clauses f numbers live (picks_live clauses f.role f.key live numbers alive) d q.0 q.1)
       (λ d q. dead_from n key clauses f live numbers (picks_found clauses f.role f.key live numbers range every) d q.0 q.1) a

@@ -8,7 +8,6 @@ pub mod Justify
 pub mod Least
 pub mod LiveClauses
 pub mod Narrowing
-pub mod Noting
 pub mod Once
 pub mod Owed
 pub mod Sent

@@ -15,7 +15,8 @@ use Rattle.cd_context.specs.contracts.facts.NoteEq.TheImpl.Laws.{laws-law}
 use Rattle.cd_context.specs.declared.facts.Fact.{Fact}
 use Rattle.cd_context.specs.declared.facts.Fact.TheVariants.{Start, Link, Back, Dead}
 use Rattle.cd_context.specs.declared.facts.Note.{Note}
-use Rattle.cd_context.specs.Once.{AppendsOnce, HasEachOnce}
+use Rattle.cd_base.specs.Appends.{AppendsOnce}
+use Rattle.cd_context.specs.Once.{HasEachOnce}
 
 -- ---- what equal notes are
 
@@ -148,7 +149,7 @@ apart_left [] ys a = tt
 apart_left (x ∷ xs) ys a = (λ m. a.0 (member_left x xs ys m), apart_left xs ys a.1)
 
 -- some were appended
-pub adding_stops : (notes all rest old new : List Note) (Done : Type 0) → HasEachOnce notes all → IsAdding all rest old new → (Done → ⊥) → AppendsOnce notes Done old new
+pub adding_stops : (notes all rest old new : List Note) (Done : Type 0) → HasEachOnce notes all → IsAdding all rest old new → (Done → ⊥) → AppendsOnce (λ note. Member note notes) Done old new
 adding_stops notes all rest old new Done h a undone = record {
   added = a.seen;
   follows = a.follows;
@@ -158,7 +159,7 @@ adding_stops notes all rest old new Done h a undone = record {
 }
 
 -- all were appended
-pub adding_ends : (notes all rest old new : List Note) (Done : Type 0) → HasEachOnce notes all → IsAdding all rest old new → rest ≡ [] → AppendsOnce notes Done old new
+pub adding_ends : (notes all rest old new : List Note) (Done : Type 0) → HasEachOnce notes all → IsAdding all rest old new → rest ≡ [] → AppendsOnce (λ note. Member note notes) Done old new
 adding_ends notes all rest old new Done h a e =
     let same : a.seen ≡ all = sym (a.split ∙ ap (λ (l : List Note). a.seen ++ l) e ∙ append-nil a.seen) in
     record {

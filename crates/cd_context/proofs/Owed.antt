@@ -20,19 +20,19 @@ use Rattle.cd_context.specs.declared.facts.Fact.TheVariants.{Back}
 use Rattle.cd_context.specs.declared.facts.LinkFact.{LinkFact}
 use Rattle.cd_context.specs.declared.facts.Note.{Note}
 use Rattle.cd_context.specs.Calls.{Sends, ListsOwed}
-use Rattle.cd_context.specs.Noting.{Notes}
-use Rattle.cd_context.specs.Once.{AppendsOnce}
+use Rattle.cd_base.specs.Appends.{Appends}
+use Rattle.cd_base.proofs.Appending.{OfBelow, OfOne, otherwise}
+use Rattle.cd_base.specs.Appends.{AppendsOnce}
 use Rattle.cd_context.specs.Owes.{Owes, owes_link, owes_back, owes_dead}
 use Rattle.cd_context.specs.Parts.{AreFrom, IsUnderOne, IsOfUse, IsLinkNote, IsDeadNote, IsUsefulBack, IsLinkAt, IsBackAt, IsLinkOf, IsToldTo, IsToldBy, IsOwedBy}
 use Rattle.cd_context.specs.State.{State, live_of}
 use Rattle.cd_rules.proofs.Found.{filtered_member, member_filtered}
-use Rattle.cd_context.proofs.Noting.{otherwise, OfOne, OfBelow}
 
 -- ---- one element
 
 -- the link of an existential that is eligible
 pub link_at : (n : Normal) (own : List ℕ) (c : List Elem) (i r : ℕ) (k : List ℕ) (Done : Type 0) (old new : List Note)
-    → get_or c i (Plain 0) ≡ Exist r k → Eligible n (get_or c i (Plain 0)) c → Notes (IsLinkNote own r k) Done old new → Notes (IsLinkAt n own c i) Done old new
+    → get_or c i (Plain 0) ≡ Exist r k → Eligible n (get_or c i (Plain 0)) c → Appends Member (IsLinkNote own r k) Done old new → Appends Member (IsLinkAt n own c i) Done old new
 link_at n own c i r k Done old new e el a =
     otherwise (IsLinkNote own r k) (IsLinkAt n own c i) Done Done old new
     (λ note p. (r, k, e, subst (λ (x : Elem). Eligible n x c) e el, p))
@@ -46,8 +46,8 @@ link_at n own c i r k Done old new e el a =
 
 -- the backs of an atom that is eligible
 pub backs_at : (n : Normal) (own : List ℕ) (links : List LinkFact) (c : List Elem) (i a : ℕ) (Done : Type 0) (old new : List Note)
-    → get_or c i (Plain 0) ≡ Plain a → Eligible n (get_or c i (Plain 0)) c → Notes (OfOne (IsUsefulBack n own a) links) Done old new
-    → Notes (IsBackAt n own links c i) Done old new
+    → get_or c i (Plain 0) ≡ Plain a → Eligible n (get_or c i (Plain 0)) c → Appends Member (OfOne (IsUsefulBack n own a) links) Done old new
+    → Appends Member (IsBackAt n own links c i) Done old new
 backs_at n own links c i a Done old new e el w =
     otherwise (OfOne (IsUsefulBack n own a) links) (IsBackAt n own links c i) Done Done old new
     (λ note p. (a, e, subst (λ (x : Elem). Eligible n x c) e el, p))
@@ -70,7 +70,7 @@ use_found n a axioms r at u = (u.0, (at u.0).1 (u.1, u.2), u.3)
 
 -- the links of the places are those of the clause
 pub links_end : (n : Normal) (own : List ℕ) (c : List Elem) (count : ℕ) (Done Done' : Type 0) (old new : List Note) → count ≡ length c → (Done' → Done)
-    → Notes (OfBelow (IsLinkAt n own c) count) Done old new → Notes (IsLinkOf n own c) Done' old new
+    → Appends Member (OfBelow (IsLinkAt n own c) count) Done old new → Appends Member (IsLinkOf n own c) Done' old new
 links_end n own c count Done Done' old new e d a =
     otherwise (OfBelow (IsLinkAt n own c) count) (IsLinkOf n own c) Done Done' old new
     (λ note q. (q.2.0, q.2.1, q.2.3, q.2.4))
@@ -78,7 +78,7 @@ links_end n own c count Done Done' old new e d a =
 
 -- what the places of a clause tell is what it tells, where it isn't empty
 pub told_end : (n : Normal) (own : List ℕ) (links : List LinkFact) (c : List Elem) (count : ℕ) (Done Done' : Type 0) (old new : List Note) → count ≡ length c → (count ≡ 0 → ⊥) → (Done' → Done)
-    → Notes (OfBelow (IsBackAt n own links c) count) Done old new → Notes (IsToldBy n own links c) Done' old new
+    → Appends Member (OfBelow (IsBackAt n own links c) count) Done old new → Appends Member (IsToldBy n own links c) Done' old new
 told_end n own links c count Done Done' old new e some d a =
     otherwise (OfBelow (IsBackAt n own links c) count) (IsToldBy n own links c) Done Done' old new
     (λ note q. (q.2.3.0, q.2.3.1, inr (q.2.0, q.2.2, q.2.3.2)))
@@ -90,7 +90,7 @@ told_end n own links c count Done Done' old new e some d a =
 
 -- an empty clause tells deads
 pub deads_end : (n : Normal) (own : List ℕ) (links : List LinkFact) (c : List Elem) (Done : Type 0) (old new : List Note) → c ≡ []
-    → Notes (OfOne (IsDeadNote own) links) Done old new → Notes (IsToldBy n own links c) Done old new
+    → Appends Member (OfOne (IsDeadNote own) links) Done old new → Appends Member (IsToldBy n own links c) Done old new
 deads_end n own links c Done old new e a =
     otherwise (OfOne (IsDeadNote own) links) (IsToldBy n own links c) Done Done old new
     (λ note q. (q.0, q.1, inl (e, q.2)))
@@ -176,7 +176,7 @@ ToldByOne n own links clauses k note = IsToldBy n own links (get_or clauses k []
 module _ (n : Normal) (key : List ℕ) (clauses : List (List Elem)) (live : List ℕ) (backs : List BackFact) (deads : List DeadFact) where
   -- what is owed from a number on is all that became owed since
   pub sends_since : (links : List LinkFact) (stored : ℕ) (found : List ℕ) (Done : Type 0) (old new : List Note)
-      → AreFrom stored live found → Notes (OfOne (OwedByOne n key links clauses) found) Done old new
+      → AreFrom stored live found → Appends Member (OfOne (OwedByOne n key links clauses) found) Done old new
       → Sends n Done (Owes n (record { key = key; clauses = clauses; live = filter (λ k. nat_lt k stored) live; links = links; backs = backs; deads = deads }))
       (record { key = key; clauses = clauses; live = live; links = links; backs = backs; deads = deads }) old new
   sends_since links stored found Done old new from a =
@@ -199,7 +199,7 @@ module _ (n : Normal) (key : List ℕ) (clauses : List (List Elem)) (live : List
 
   -- what is told to a new link is all that became owed by it
   pub sends_link : (earlier : List LinkFact) (link : LinkFact) (Done : Type 0) (old new : List Note)
-      → Notes (OfOne (ToldByOne n key (link ∷ []) clauses) live) Done old new
+      → Appends Member (OfOne (ToldByOne n key (link ∷ []) clauses) live) Done old new
       → Sends n Done (Owes n (record { key = key; clauses = clauses; live = live; links = earlier; backs = backs; deads = deads }))
       (record { key = key; clauses = clauses; live = live; links = earlier ++ link ∷ []; backs = backs; deads = deads }) old new
   sends_link earlier link Done old new a =
@@ -241,7 +241,7 @@ pub lists_owed : (n : Normal) (key : List ℕ) (clauses : List (List Elem)) (liv
     (owed old new : List Note) (Done : Type 0)
     → Sends n (true ≡ true) (Owes n (record { key = key; clauses = clauses; live = filter (λ k. nat_lt k 0) live; links = links; backs = backs; deads = deads }))
     (record { key = key; clauses = clauses; live = live; links = links; backs = backs; deads = deads }) [] owed
-    → AppendsOnce owed Done old new
+    → AppendsOnce (λ note. Member note owed) Done old new
     → ListsOwed n Done (record { key = key; clauses = clauses; live = live; links = links; backs = backs; deads = deads }) old new
 lists_owed n key clauses live links backs deads owed old new Done s a = record {
   added = a.added;

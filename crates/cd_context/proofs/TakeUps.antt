@@ -11,7 +11,7 @@ use Rattle.cd_clause.specs.Rules.{Rests, Concludes, by_init, by_neg, by_con, by_
 use Rattle.cd_clause.specs.declared.elem.Elem.{Elem}
 use Rattle.cd_clause.proofs.Derive.{concludes_more}
 use Rattle.cd_index.specs.Index.{has}
-use Rattle.cd_rules.specs.Appends.{Among}
+use Rattle.cd_rules.specs.Among.{Among}
 use Rattle.cd_rules.specs.Facts.{ConcludesFrom, IsBack, IsDead, IsPicked}
 use Rattle.cd_rules.specs.Uses.{RestsUse, Uses, FromClause}
 use Rattle.cd_store.specs.Store.{IsNew}

@@ -4,7 +4,8 @@ use Rattle.cd_base.specs.declared.normal.Normal.{Normal}
 use Rattle.cd_context.specs.declared.facts.Fact.{Fact}
 use Rattle.cd_context.specs.declared.facts.Note.{Note}
 use Rattle.cd_context.specs.Calls.{Grows, GainsOnly, Sends}
-use Rattle.cd_context.specs.Facts.{has_fact, count, last}
+use Rattle.cd_base.specs.Counts.{last}
+use Rattle.cd_context.specs.Facts.{has_fact, count}
 use Rattle.cd_context.specs.Justified.{IsContext, ClosedLocally}
 use Rattle.cd_context.specs.Owes.{Owes}
 use Rattle.cd_context.specs.State.{State}

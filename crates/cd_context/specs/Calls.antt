@@ -1,6 +1,7 @@
 -- What the calls of a context come to.
 use Rattle.std.specs.Prelude.{◌≡◌, ℕ, ◌<◌, ◌⊎◌, true, List, [], ◌∷◌, ◌++◌}
-use Rattle.cd_base.specs.Lists.{Member, SameSet, IsApart}
+use Rattle.cd_base.specs.Appends.{Appends, AppendsOnce}
+use Rattle.cd_base.specs.Lists.{Member, SameSet}
 use Rattle.cd_base.specs.declared.normal.Normal.{Normal}
 use Rattle.cd_clause.specs.declared.elem.Elem.{Elem}
 use Rattle.cd_clause.specs.declared.elem.Elem.TheVariants.{Plain}
@@ -26,16 +27,9 @@ abbrev pub GainsOnly : State → Fact → State → Type 0
 GainsOnly old fact new = (f : Fact) → has_fact new f ≡ true → (has_fact old f ≡ true) ⊎ (f ≡ fact)
 
 -- `new_out` is `out` followed by notes that the new state owes, and where the work was done, by each that became owed
-pub record Sends (n : Normal) (Done : Type 0) (WasOwed : Note → Type 0) (state : State) (out new_out : List Note) : Type 0 where
-  pub added : List Note
-  pub follows : new_out ≡ out ++ added
-  pub only : (note : Note) → Member note added → Owes n state note
-  pub every : Done → (note : Note) → Owes n state note → WasOwed note ⊎ Member note added
+abbrev pub Sends : Normal → Type 0 → (Note → Type 0) → State → List Note → List Note → Type 0
+Sends n Done WasOwed state out new_out = Appends (λ note added. WasOwed note ⊎ Member note added) (Owes n state) Done out new_out
 
 -- `new_out` is `out` followed by notes that the state owes, each once, and where the work was done, by all of them
-pub record ListsOwed (n : Normal) (Done : Type 0) (state : State) (out new_out : List Note) : Type 0 where
-  pub added : List Note
-  pub follows : new_out ≡ out ++ added
-  pub only : (note : Note) → Member note added → Owes n state note
-  pub once : IsApart added
-  pub every : Done → (note : Note) → Owes n state note → Member note added
+abbrev pub ListsOwed : Normal → Type 0 → State → List Note → List Note → Type 0
+ListsOwed n Done state out new_out = AppendsOnce (Owes n state) Done out new_out

@@ -2,6 +2,7 @@
 use Rattle.std.specs.Prelude.{ℕ, ◌+◌, ◌&&◌, ◌==◌, Bool, true, min, List, length, nat_eq}
 use Rattle.std.specs.Cmp.Lexicographic.{pointwise}
 use Rattle.std.specs.List.{list_any}
+use Rattle.cd_base.specs.Counts.{last}
 use Rattle.cd_rules.specs.declared.facts.BackFact.{BackFact}
 use Rattle.cd_rules.specs.declared.facts.DeadFact.{DeadFact}
 use Rattle.cd_context.specs.declared.facts.Fact.{Fact}
@@ -19,10 +20,6 @@ has_fact s Start = true
 has_fact s (Link k r) = list_any (λ (f : LinkFact). same_key k f.key && r == f.role) s.links
 has_fact s (Back r k a) = list_any (λ (f : BackFact). r == f.role && (same_key k f.key && a == f.atom)) s.backs
 has_fact s (Dead r k) = list_any (λ (f : DeadFact). r == f.role && same_key k f.key) s.deads
-
--- the last u64
-abbrev pub last : ℕ
-last = 0xffff_ffff_ffff_ffff
 
 -- the stored clauses, live or dead, with the links, backs and deads; a count that would pass the last u64 stands at it
 abbrev pub count : State → ℕ

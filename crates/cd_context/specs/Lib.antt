@@ -5,7 +5,6 @@ pub mod FactLists
 pub mod FactWrites
 pub mod Facts
 pub mod Justified
-pub mod Noting
 pub mod Once
 pub mod Only
 pub mod Owes

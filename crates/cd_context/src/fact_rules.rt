@@ -5,7 +5,8 @@
 ghost use Rattle.std.specs.Prelude.{◌≡◌, ◌↔◌, ℕ, List, IfOk, IsOk};
 ghost use Rattle.cd_base.specs.Lists.{Member};
 ghost use Rattle.cd_clause.specs.declared.elem.Elem.TheVariants.{Exist};
-ghost use Rattle.cd_rules.specs.Appends.{Appends};
+ghost use Rattle.cd_base.specs.Appends.{Appends};
+ghost use Rattle.cd_rules.specs.Among.{Among};
 ghost use Rattle.cd_rules.specs.Uses.{FromBack, FromDead};
 ghost use Rattle.cd_store.specs.LookUps.{HasElem};
 
@@ -27,7 +28,7 @@ pub(crate) fn conclude_back(
     back: &BackFact,
     out: &mut Vec<Clause>,
 ) -> Result<(), Memory>
-    ensures { (key : List ℕ) → Appends (FromBack index.now.normal key store.now.0 store.now.1 back.now) (IsOk result) out.old.items out.new.items }
+    ensures { (key : List ℕ) → Appends Among (FromBack index.now.normal key store.now.0 store.now.1 back.now) (IsOk result) out.old.items out.new.items }
 {
     // what every store keeps is said where its live numbers are lent
     let _live = store.live();
@@ -45,7 +46,7 @@ pub(crate) fn conclude_dead(
     dead: &DeadFact,
     out: &mut Vec<Clause>,
 ) -> Result<(), Memory>
-    ensures { (key : List ℕ) → Appends (FromDead index.now.normal key store.now.0 store.now.1 dead.now) (IsOk result) out.old.items out.new.items }
+    ensures { (key : List ℕ) → Appends Among (FromDead index.now.normal key store.now.0 store.now.1 dead.now) (IsOk result) out.old.items out.new.items }
 {
     // what every store keeps is said where its live numbers are lent
     let _live = store.live();

@@ -3,7 +3,7 @@ ghost use Rattle.std.specs.Prelude.{◌∷◌, ◌++◌, ◌<◌, ℕ, [], lengt
 ghost use Rattle.cd_base.specs.Lists.{Member};
 ghost use Rattle.cd_store.specs.Store.{IsAscending};
 ghost use Rattle.cd_context.specs.Calls.{Sends};
-ghost use Rattle.cd_context.specs.Noting.{Notes};
+ghost use Rattle.cd_base.specs.Appends.{Appends};
 ghost use Rattle.cd_context.specs.Owes.{Owes};
 ghost use Rattle.cd_context.specs.Parts.{AreFrom, IsOwedBy, IsToldBy};
 ghost use Rattle.cd_context.specs.declared.facts.LinkFact.{LinkFact};
@@ -65,7 +65,7 @@ fn owe_all(
     out: &mut Vec<Note>,
 ) -> Result<(), Memory>
     requires { (k : ℕ) → Member k numbers.now → k < length clauses.now }
-    ensures { Notes (λ note. (k : ℕ) × Member k numbers.now × IsOwedBy index.now.normal key.now links.now (slice_index_or clauses.now k []) note) (IsOk result) out.old.items out.new.items }
+    ensures { Appends Member (λ note. (k : ℕ) × Member k numbers.now × IsOwedBy index.now.normal key.now links.now (slice_index_or clauses.now k []) note) (IsOk result) out.old.items out.new.items }
 {
     let mut rest = numbers;
     'numbers: while let [number, others @ ..] = rest {
@@ -83,7 +83,7 @@ fn owe_one(
     links: &[LinkFact],
     out: &mut Vec<Note>,
 ) -> Result<(), Memory>
-    ensures { Notes (IsOwedBy index.now.normal key.now links.now clause.now) (IsOk result) out.old.items out.new.items }
+    ensures { Appends Member (IsOwedBy index.now.normal key.now links.now clause.now) (IsOk result) out.old.items out.new.items }
 {
     note_links(index, key, clause, out)?;
     tell(index, key, clause, links, out)
@@ -125,7 +125,7 @@ fn tell_all(
     out: &mut Vec<Note>,
 ) -> Result<(), Memory>
     requires { (k : ℕ) → Member k numbers.now → k < length clauses.now }
-    ensures { Notes (λ note. (k : ℕ) × Member k numbers.now × IsToldBy index.now.normal key.now links.now (slice_index_or clauses.now k []) note) (IsOk result) out.old.items out.new.items }
+    ensures { Appends Member (λ note. (k : ℕ) × Member k numbers.now × IsToldBy index.now.normal key.now links.now (slice_index_or clauses.now k []) note) (IsOk result) out.old.items out.new.items }
 {
     let mut rest = numbers;
     'numbers: while let [number, others @ ..] = rest {

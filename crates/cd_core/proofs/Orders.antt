@@ -2,7 +2,8 @@
 use Rattle.std.proofs.Common.{ℕ, inl, inr, Bool, List, [], ◌∷◌, sym, subst}
 use Rattle.cd_base.specs.Lists.{Member}
 use Rattle.cd_actor.specs.Meaning.{Meaning}
-use Rattle.cd_actor.specs.Cells.{AreOf, Had, HadOrPends, last}
+use Rattle.cd_base.specs.Counts.{last}
+use Rattle.cd_actor.specs.Cells.{AreOf, Had, HadOrPends}
 use Rattle.cd_core.specs.State.{Runs, KeepsAll, KeepsFamily}
 use Rattle.cd_core.specs.Runs.{ComesTo, EveryOrder}
 use Rattle.cd_base.proofs.Members.{member_left}

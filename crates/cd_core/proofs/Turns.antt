@@ -5,7 +5,8 @@ use Rattle.std.proofs.lemmas.Bool.{cases_Bool}
 use Rattle.std.proofs.lemmas.List.Sums.{sum_by-set, sum_by-cons}
 use Rattle.cd_base.specs.Lists.{Member}
 use Rattle.cd_actor.specs.Meaning.{HasRisen, Meaning, Keeps, Delivers}
-use Rattle.cd_actor.specs.Cells.{At, IsLawful, Had, HadOrPends, IsOwedCovered, last, total}
+use Rattle.cd_base.specs.Counts.{last}
+use Rattle.cd_actor.specs.Cells.{At, IsLawful, Had, HadOrPends, IsOwedCovered, total}
 use Rattle.cd_core.specs.State.{Runs, KeepsAll, KeepsFamily, KeepsHad}
 use Rattle.cd_core.specs.Ends.{IsEnd, IsOneDeliveryPast}
 use Rattle.cd_base.proofs.Members.{member_left, member_right, member_cases}

@@ -1,7 +1,8 @@
 //! Deliveries over the parts of a core.
 ghost use Rattle.std.specs.Prelude.{◌≡◌, ◌+◌, ◌<◌, ◌≤◌, ◌⊎◌, ◌∷◌, ◌++◌, OnOk, IfOk, true, false, []};
 ghost use Rattle.cd_actor.specs.Sends.{sent};
-ghost use Rattle.cd_actor.specs.Cells.{total, last};
+ghost use Rattle.cd_base.specs.Counts.{last};
+ghost use Rattle.cd_actor.specs.Cells.{total};
 ghost use Rattle.cd_core.specs.State.{Runs, KeepsAll, KeepsFamily, KeepsHad};
 ghost use Rattle.cd_core.specs.Steps.{IsTurn};
 ghost use Rattle.cd_core.specs.Ends.{IsOneDeliveryPast};

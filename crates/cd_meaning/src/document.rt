@@ -6,9 +6,15 @@ ghost use Rattle.cd_meaning.specs.Iri.{reserved_classes};
 use crate::expression::Axiom;
 use cd_base::Seq;
 
+/// owl:Thing, by its number: the class of all elements.
+pub const THING: u32 = 0;
+
+/// owl:Nothing, by its number: the class of no element.
+pub const NOTHING: u32 = 1;
+
 /// The axioms of an ontology document, with the IRIs of its classes and of its roles by number. Structural Specification, section 3.
 ///
-/// Class 0 is owl:Thing and class 1 owl:Nothing. No two classes have one IRI, and no two roles.
+/// The first two classes are owl:Thing and owl:Nothing (`THING`, `NOTHING`). No two classes have one IRI, and no two roles.
 #[derive(Debug, Drop)]
 pub struct Document {
     pub axioms: Seq<Axiom>,

@@ -17,7 +17,7 @@ mod trees;
 mod truth;
 mod worked;
 
-pub use document::Document;
+pub use document::{Document, NOTHING, THING};
 pub use expression::{Axiom, Expr};
 pub use interpretation::{Edge, Interpretation, Member};
 pub use laws::{finite_is_enough, finite_is_some, has_one_answer};

@@ -3,6 +3,7 @@ ghost use Rattle.std.specs.Prelude.{◌≡◌, ◌<◌, ◌==◌, ◌&&◌};
 ghost use Rattle.std.specs.List.{list_all, list_any};
 ghost use Rattle.cd_meaning.specs.Membership.{class_has, leads, keeps, member};
 
+use crate::document::{NOTHING, THING};
 use crate::expression::Expr;
 use crate::interpretation::{Interpretation, Member};
 
@@ -30,7 +31,7 @@ pub fn is_in(i: &Interpretation, element: u32, e: &Expr) -> bool
 pub(crate) fn class_has(i: &Interpretation, class: u32, element: u32) -> bool
     ensures { result ≡ class_has i.now class element }
 {
-    class == 0 || class != 1 && is_listed(i.classes.items(), class, element)
+    class == THING || class != NOTHING && is_listed(i.classes.items(), class, element)
 }
 
 /// Linear in the pairs.

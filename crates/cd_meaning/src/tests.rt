@@ -2,15 +2,11 @@
 //! What has many parts is let go of by `drop`, which the prover takes as one step.
 ghost use Rattle.std.specs.Prelude.{◌≡◌};
 
-use crate::{Axiom, Edge, Expr, Interpretation, Member, holds, is_in};
+use crate::{Axiom, Edge, Expr, Interpretation, Member, NOTHING, THING, holds, is_in};
 use cd_base::Seq;
 use sqlite_items::{Boxed, Items};
 use std::alloc::Global;
 use std::process::Abort;
-
-const THING: u32 = 0;
-
-const NOTHING: u32 = 1;
 
 const A: u32 = 2;
 

@@ -1,11 +1,12 @@
 -- Names and prefixes as their hash tables hold them, read by their bytes.
-use Rattle.std.proofs.Common.{◌≡◌, ℕ, ◌+◌, Bool, true, false, not, cond, ◌||◌, List, [], ◌∷◌, ◌++◌, map, Option, None, Some, refl, ap, ◌∙◌}
+use Rattle.std.proofs.Common.{◌≡◌, ℕ, ◌+◌, Bool, true, false, not, cond, ◌||◌, List, [], ◌∷◌, ◌++◌, map, Option, None, Some, refl, sym, ap, ◌∙◌, arith}
 use Rattle.std.specs.Prelude.{if◌then◌else◌}
 use Rattle.std.specs.Cmp.Lexicographic.{nat_list_eq_equiv}
-use Rattle.std.specs.List.{list_any, position_or_len}
+use Rattle.std.specs.List.{list_any, position, position_or_len}
 use Rattle.std.specs.Map.{lookup}
 use Rattle.std.specs.Option.{option_map}
 use Rattle.std.specs.Str.{bytes_eq}
+use Rattle.std.proofs.lemmas.Grind.{common_steps}
 use Rattle.std.proofs.lemmas.List.{map-append}
 use Rattle.indexmap.proofs.CallerLemmas.{insert_entry-new}
 use Rattle.indexmap.specs.IndexMap.{IndexMap, insert_entry}
@@ -32,6 +33,16 @@ module _ {X : Type 0} (f : X → List ℕ) (i : List ℕ) where
         | true ↦ refl
         | false ↦ map-append f xs (x ∷ []) ∙ ap (λ (j : List ℕ). map f xs ++ j ∷ []) named
       ]) ∙ ap (λ (t : Bool). cond t (map f xs) longer) (any_name xs)
+
+module _ {X : Type 0} (f : X → List ℕ) (i : List ℕ) where
+  -- a name that is found is there, at its number
+  pub known_number : (xs : List X) (k : ℕ) → position (λ x. bytes_eq i (f x)) xs ≡ Some k → number (map f xs) i ≡ k
+  known_number xs k e =
+      let at : position_or_len (λ x. bytes_eq i (f x)) xs ≡ k = grind (arith, common_steps) in
+      sym (number_of f i xs) ∙ at
+
+  pub known_stays : (xs : List X) → list_any (λ x. bytes_eq i (f x)) xs ≡ true → add_name (map f xs) i ≡ map f xs
+  known_stays xs h = ap (λ (t : Bool). cond t (map f xs) (map f xs ++ i ∷ [])) (sym (any_name f i xs) ∙ h)
 
 -- ---- a map's entries, seen as prefixes and IRIs
 

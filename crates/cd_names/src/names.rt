@@ -50,13 +50,17 @@ impl Names {
         self.iris.as_slice()[number as usize].as_slice()
     }
 
-    /// The number of an IRI, which goes to the end if it is new. One look-up, so linear in the bytes of the IRI, which is copied once.
+    /// The number of an IRI, which goes to the end if it is new. One look-up, so linear in the bytes of the IRI; a new one takes two,
+    /// and only then the IRI is copied.
     pub fn add(&mut self, iri: &[u8]) -> Result<u32, Memory>
         requires { length self.old < 2 ^ 32 - 1 }
         ensures numbered { IfOk result (λ n. n ≡ number self.old iri.now) }
         ensures added { OnOk result (self.new ≡ add_name self.old iri.now) }
         ensures unchanged { OnErr result (self.new ≡ self.old) }
     {
+        if let Some(at) = self.iris.get_index_of(iri) {
+            return Ok(at as u32);
+        }
         let owned = iri.to_vec(*self.iris.allocator())?;
         let (at, _) = self.iris.insert_full(owned)?;
         Ok(at as u32)

@@ -11,7 +11,7 @@ use crate::apart::apart;
 use crate::maker::Maker;
 use crate::uses::{used, used_each};
 use cd_base::{Atom, Memory};
-use cd_meaning::{Axiom, Expr};
+use cd_meaning::{Axiom, Expr, THING};
 use std::alloc::Global;
 
 /// Adds the normal axioms of an axiom.
@@ -133,7 +133,7 @@ fn domain(
     ensures grown { IfOk result (λ done. IsGrownOnce maker.old maker.new (Domain role class.now)) }
 {
     let x = used(maker, alloc, classes, class, true, false)?;
-    maker.back(0, role, x)?;
+    maker.back(THING, role, x)?;
     Ok(())
 }
 

@@ -13,7 +13,7 @@ ghost use Rattle.cd_meaning.specs.declared.interpretation.Interpretation.{Interp
 use crate::axioms::all_give;
 use crate::maker::Maker;
 use cd_base::{Atom, Memory, Normal, Seq};
-use cd_meaning::{Axiom, Document};
+use cd_meaning::{Axiom, Document, NOTHING, THING};
 use std::alloc::Global;
 
 /// The normal axioms of a document, by structural transformation. The atoms below the number of classes are these classes.
@@ -56,9 +56,9 @@ fn made(alloc: Global, classes: u32, axioms: &[Axiom]) -> Result<Maker, Memory>
         n5: Vec::new(alloc),
     };
     all_give(&mut maker, alloc, classes, axioms)?;
-    let nothing = vec![in alloc; Atom(1)]?;
+    let nothing = vec![in alloc; Atom(NOTHING)]?;
     maker.imply(nothing, Vec::new(alloc))?;
-    let thing = vec![in alloc; Atom(0)]?;
+    let thing = vec![in alloc; Atom(THING)]?;
     maker.imply(Vec::new(alloc), thing)?;
     Ok(maker)
 }

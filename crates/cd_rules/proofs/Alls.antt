@@ -9,12 +9,13 @@ use Rattle.cd_clause.specs.declared.elem.Elem.{Elem}
 use Rattle.cd_clause.specs.declared.elem.Elem.TheVariants.{Plain, Exist}
 use Rattle.cd_clause.specs.Elements.{Eligible, rest}
 use Rattle.cd_clause.specs.Numbers.{picked}
-use Rattle.cd_rules.specs.Appends.{Appends}
+use Rattle.cd_base.specs.Appends.{Appends}
+use Rattle.cd_rules.specs.Among.{Among}
+use Rattle.cd_base.proofs.Appending.{otherwise}
 use Rattle.cd_rules.specs.Facts.{IsPicked}
 use Rattle.cd_rules.specs.LookUps.{AreAtAtom}
 use Rattle.cd_rules.specs.Steps.{IsAllOfAtom, IsAllOfExist}
 use Rattle.cd_rules.specs.Walks.{ByOne, IsPlaceOf, IsAllBy, IsAllAtExist, IsAllAtAtom, IsAllWithExists, IsAllWithAtoms}
-use Rattle.cd_rules.proofs.Appending.{otherwise}
 use Rattle.cd_rules.proofs.SameSets.{same_set_refl, same_set_trans, same_set_cons, same_set_append}
 
 -- what is concluded depends on the elements of both rests alone
@@ -36,12 +37,12 @@ module _ (n : Normal) (triples : List Triple) (others c : List Elem) where
 
   -- an eligible existential gives what the axioms do, with the clause without its place
   pub at_exist : (i r : ℕ) (k : List ℕ) (left : List Elem) {Done : Type 0} {old new : List (List Elem)} → IsPlaceOf (Exist r k) c i → Eligible n (get_or c i (Plain 0)) c → left ≡ remove c i
-      → Appends (ByOne (IsAllBy n r k left others) triples) Done old new → Appends (IsAllAtExist n triples others c (get_or c i (Plain 0))) Done old new
+      → Appends Among (ByOne (IsAllBy n r k left others) triples) Done old new → Appends Among (IsAllAtExist n triples others c (get_or c i (Plain 0))) Done old new
   at_exist i r k left {Done = Done} {old = old} {new = new} place el q a =
       let beside : List Elem = rest (Exist r k) c in
       let el' : Eligible n (Exist r k) c = subst (λ w. Eligible n w c) place.at el in
       let s : SameSet left beside = subst (SameSet left) (q ∙ place.alone) (same_set_refl left) in
-      subst (λ w. Appends (IsAllAtExist n triples others c w) Done old new) (sym place.at)
+      subst (λ w. Appends Among (IsAllAtExist n triples others c w) Done old new) (sym place.at)
       (otherwise (ByOne (IsAllBy n r k left others) triples) (IsAllAtExist n triples others c (Exist r k)) Done Done old new
       (λ d p. (el', (p.0, p.1, all_by_same n r k left others beside others s (same_set_refl others) p.0 d p.2)))
       (λ h d p. (p.1.0, p.1.1, all_by_same n r k beside others left others (s.1, s.0) (same_set_refl others) p.1.0 d p.1.2))
@@ -61,12 +62,12 @@ module _ (n : Normal) (r : ℕ) (k : List ℕ) (others c : List Elem) where
 
   -- an eligible atom gives what its axioms do, with the clause without its place
   pub at_atom : (i a : ℕ) (triples : List Triple) (right : List Elem) {Done : Type 0} {old new : List (List Elem)} → AreAtAtom n.n4 a triples → IsPlaceOf (Plain a) c i → Eligible n (get_or c i (Plain 0)) c → right ≡ remove c i
-      → Appends (ByOne (IsAllBy n r k others right) triples) Done old new → Appends (IsAllAtAtom n r k others c (get_or c i (Plain 0))) Done old new
+      → Appends Among (ByOne (IsAllBy n r k others right) triples) Done old new → Appends Among (IsAllAtAtom n r k others c (get_or c i (Plain 0))) Done old new
   at_atom i a triples right {Done = Done} {old = old} {new = new} at place el q b =
       let beside : List Elem = rest (Plain a) c in
       let el' : Eligible n (Plain a) c = subst (λ w. Eligible n w c) place.at el in
       let s : SameSet right beside = subst (SameSet right) (q ∙ place.alone) (same_set_refl right) in
-      subst (λ w. Appends (IsAllAtAtom n r k others c w) Done old new) (sym place.at)
+      subst (λ w. Appends Among (IsAllAtAtom n r k others c w) Done old new) (sym place.at)
       (otherwise (ByOne (IsAllBy n r k others right) triples) (IsAllAtAtom n r k others c (Plain a)) Done Done old new
       (λ d p. let m = (at p.0).0 p.1 in (el', (p.0, m.0, m.1, all_by_same n r k others right others beside (same_set_refl others) s p.0 d p.2)))
       (λ h d p. (p.1.0, (at p.1.0).1 (p.1.1, p.1.2), all_by_same n r k others beside others right (same_set_refl others) (s.1, s.0) p.1.0 d p.1.3))

@@ -8,12 +8,13 @@ use Rattle.cd_clause.specs.declared.elem.Elem.{Elem}
 use Rattle.cd_clause.specs.declared.elem.Elem.TheVariants.{Plain, Exist}
 use Rattle.cd_clause.specs.Elements.{Eligible, rest}
 use Rattle.cd_rules.specs.declared.facts.BackFact.{BackFact}
-use Rattle.cd_rules.specs.Appends.{Appends}
+use Rattle.cd_base.specs.Appends.{Appends}
+use Rattle.cd_rules.specs.Among.{Among}
+use Rattle.cd_base.proofs.Appending.{otherwise}
 use Rattle.cd_rules.specs.Facts.{IsBack}
 use Rattle.cd_rules.specs.LookUps.{AreAtAtom}
 use Rattle.cd_rules.specs.Steps.{IsBackOf, IsBackFrom}
 use Rattle.cd_rules.specs.Walks.{ByOne, IsBackBy, IsBackByFact, IsBackWith}
-use Rattle.cd_rules.proofs.Appending.{otherwise}
 use Rattle.cd_rules.proofs.SameSets.{same_set_trans, same_set_cons}
 
 module _ (n : Normal) (r : ℕ) (k : List ℕ) (a : ℕ) (others : List Elem) (triples : List Triple) (at : AreAtAtom n.n3 a triples) where
@@ -40,7 +41,7 @@ back_of_same n r k a others others' s d p =
 
 -- with one clause, by the rest beside its existential
 pub with_rest : (n : Normal) (f : BackFact) (c others : List Elem) {Done : Type 0} {old new : List (List Elem)} → Eligible n (Exist f.role f.key) c → SameSet others (rest (Exist f.role f.key) c)
-    → Appends (IsBackOf n f.role f.key f.atom others) Done old new → Appends (IsBackWith n f c) Done old new
+    → Appends Among (IsBackOf n f.role f.key f.atom others) Done old new → Appends Among (IsBackWith n f c) Done old new
 with_rest n f c others {Done = Done} {old = old} {new = new} el s a =
     let beside : List Elem = rest (Exist f.role f.key) c in
     otherwise (IsBackOf n f.role f.key f.atom others) (IsBackWith n f c) Done Done old new

@@ -9,9 +9,11 @@ use Rattle.cd_clause.specs.Elements.{Eligible, rest}
 use Rattle.cd_clause.specs.Rules.{Rests}
 use Rattle.cd_clause.specs.declared.elem.Elem.{Elem}
 use Rattle.cd_clause.specs.declared.elem.Elem.TheVariants.{Plain}
-use Rattle.cd_rules.specs.Appends.{Appends}
+use Rattle.cd_base.specs.Appends.{Appends}
+use Rattle.cd_rules.specs.Among.{Among}
+use Rattle.cd_base.proofs.Appending.{otherwise}
+use Rattle.cd_rules.proofs.Among.{one}
 use Rattle.cd_rules.specs.Facts.{IsPicked}
-use Rattle.cd_rules.proofs.Appending.{one, otherwise}
 use Rattle.cd_rules.proofs.Counted.{HasCounted, OfBelow, count_ends, count_goes, count_leaves, count_passes, count_stops}
 use Rattle.cd_rules.proofs.Pushed.{same_trans}
 use Rattle.cd_rules.proofs.PickedAt.{at_picked, clause_at, picked_at}
@@ -92,7 +94,7 @@ module _ (n : Normal) (clauses : List (List Elem)) (choices : List ℕ) (taken :
 
   -- what one choice adds
   of_choice : (i : ℕ) (c next : List Elem) (Done : Type 0) (old new : List (List Elem)) → c ≡ clause_at clauses choices i → Eligible n (Plain atom) c × SameSet next (base ++ rest (Plain atom) c)
-      → Appends (IsFrom n clauses choices later next right) Done old new → Appends (Step i) Done old new
+      → Appends Among (IsFrom n clauses choices later next right) Done old new → Appends Among (Step i) Done old new
   of_choice i c next Done old new q es a =
       let joined : List Elem = base ++ rest (Plain atom) (clause_at clauses choices i) in
       let s : SameSet next joined = subst (λ z. SameSet next (base ++ rest (Plain atom) z)) q es.1 in
@@ -104,7 +106,7 @@ module _ (n : Normal) (clauses : List (List Elem)) (choices : List ℕ) (taken :
   module _ (i : ℕ) (c : List Elem) (old : List (List Elem)) (q : c ≡ clause_at clauses choices i) where
     -- one more choice, in which the atom is eligible
     pub choice_goes : (next : List Elem) (Done : Type 0) (mid new : List (List Elem)) → HasCounted Step i old mid → Eligible n (Plain atom) c × SameSet next (base ++ rest (Plain atom) c)
-        → Appends (IsFrom n clauses choices later next right) Done mid new → Done → HasCounted Step (i + 1) old new
+        → Appends Among (IsFrom n clauses choices later next right) Done mid new → Done → HasCounted Step (i + 1) old new
     choice_goes next Done mid new w es a done = count_goes Step i Done old mid new w (of_choice i c next Done mid new q es a) done
 
     -- and one in which it isn't
@@ -113,19 +115,19 @@ module _ (n : Normal) (clauses : List (List Elem)) (choices : List ℕ) (taken :
 
     -- the last choice, which was not done with
     pub choice_stops : (next : List Elem) (Done Done' : Type 0) (mid new : List (List Elem)) → HasCounted Step i old mid → Eligible n (Plain atom) c × SameSet next (base ++ rest (Plain atom) c)
-        → Appends (IsFrom n clauses choices later next right) Done mid new → i < length choices → (Done' → ⊥) → Appends Whole Done' old new
+        → Appends Among (IsFrom n clauses choices later next right) Done mid new → i < length choices → (Done' → ⊥) → Appends Among Whole Done' old new
     choice_stops next Done Done' mid new w es a lt undone =
         count_stops Step i Whole (length choices) Done Done' old mid new w (of_choice i c next Done mid new q es a) lt from_choice undone
 
-  pub choices_left : (i : ℕ) (Done : Type 0) (old new : List (List Elem)) → HasCounted Step i old new → i ≤ length choices → (Done → ⊥) → Appends Whole Done old new
+  pub choices_left : (i : ℕ) (Done : Type 0) (old new : List (List Elem)) → HasCounted Step i old new → i ≤ length choices → (Done → ⊥) → Appends Among Whole Done old new
   choices_left i Done old new w le undone = count_leaves Step i Whole (length choices) Done old new w le from_choice undone
 
-  pub choices_end : (i : ℕ) (Done : Type 0) (old new : List (List Elem)) → HasCounted Step i old new → i ≡ length choices → Appends Whole Done old new
+  pub choices_end : (i : ℕ) (Done : Type 0) (old new : List (List Elem)) → HasCounted Step i old new → i ≡ length choices → Appends Among Whole Done old new
   choices_end i Done old new w e = count_ends Step i Whole (length choices) Done old new w e from_choice choice_from
 
 -- no atom is left: the base with the atoms on the right
 pub from_none : (n : Normal) (clauses : List (List Elem)) (choices taken : List ℕ) (base : List Elem) (right : List ℕ) (c : List Elem) (Done : Type 0) (old new : List (List Elem))
-    → length taken < 1 → SameSet c (base ++ map Plain right) → new ≡ old ++ c ∷ [] → Appends (IsFrom n clauses choices taken base right) Done old new
+    → length taken < 1 → SameSet c (base ++ map Plain right) → new ≡ old ++ c ∷ [] → Appends Among (IsFrom n clauses choices taken base right) Done old new
 from_none n clauses choices (a ∷ taken) base right c Done old new l s e = absurd (omega (arith, l))
 from_none n clauses choices [] base right c Done old new l s e =
     one (IsFrom n clauses choices [] base right) Done old new c e

@@ -11,12 +11,13 @@ use Rattle.cd_clause.specs.declared.elem.Elem.{Elem}
 use Rattle.cd_clause.specs.declared.elem.Elem.TheVariants.{Plain}
 use Rattle.cd_index.specs.Index.{left_of}
 use Rattle.cd_index.proofs.Numbers.{left_is}
-use Rattle.cd_rules.specs.Appends.{Appends}
+use Rattle.cd_base.specs.Appends.{Appends}
+use Rattle.cd_rules.specs.Among.{Among}
+use Rattle.cd_base.proofs.Appending.{otherwise}
 use Rattle.cd_rules.specs.Candidates.{AreCandidates, IsAtHand}
 use Rattle.cd_rules.specs.Facts.{IsPicked}
 use Rattle.cd_rules.specs.LookUps.{AreNumbers, HasAllWith}
 use Rattle.cd_rules.specs.Steps.{IsCon, IsConBy, IsWithoutOne}
-use Rattle.cd_rules.proofs.Appending.{otherwise}
 use Rattle.cd_rules.proofs.Counted.{HasCounted, OfBelow, count_ends, count_goes, count_stops}
 
 -- what the axiom of the number at place i concludes
@@ -63,8 +64,8 @@ module _ (n : Normal) (clauses : List (List Elem)) (choices numbers : List ℕ) 
   number_in i m axioms e f lt = subst (λ (v : List Conj). get_or numbers i 0 < length v) (sym (f ∙ ap (λ (v : Normal). v.n1) e)) (among.in_range (get_or numbers i 0) (member_get numbers i 0 lt))
 
   module _ (i : ℕ) (m : Normal) (axioms : List Conj) (x : Conj) (Done : Type 0) (old mid new : List (List Elem)) (e : m ≡ n) (f : axioms ≡ m.n1) (lt : i < length numbers)
-      (r : x ≡ get_or axioms (get_or numbers i 0) x) (w : HasCounted NumberStep i old mid) (a : Appends (IsConBy m (IsPicked clauses choices) x atom others) Done mid new) where
-    of_number : Appends (NumberStep i) Done mid new
+      (r : x ≡ get_or axioms (get_or numbers i 0) x) (w : HasCounted NumberStep i old mid) (a : Appends Among (IsConBy m (IsPicked clauses choices) x atom others) Done mid new) where
+    of_number : Appends Among (NumberStep i) Done mid new
     of_number =
         let k : ℕ = get_or numbers i 0 in
         let at : x ≡ get_or n.n1 k x = r ∙ ap (λ (v : List Conj). get_or v k x) (f ∙ ap (λ (v : Normal). v.n1) e) in
@@ -80,10 +81,10 @@ module _ (n : Normal) (clauses : List (List Elem)) (choices numbers : List ℕ) 
     number_goes done = count_goes NumberStep i Done old mid new w of_number done
 
     -- the last axiom, which was not done with
-    pub number_stops : (Done' : Type 0) → (Done' → ⊥) → Appends OfAny Done' old new
+    pub number_stops : (Done' : Type 0) → (Done' → ⊥) → Appends Among OfAny Done' old new
     number_stops Done' undone = count_stops NumberStep i OfAny (length numbers) Done Done' old mid new w of_number lt by_number undone
 
-  pub numbers_end : (i : ℕ) (Done : Type 0) (old new : List (List Elem)) → HasCounted NumberStep i old new → i ≡ length numbers → Appends OfAny Done old new
+  pub numbers_end : (i : ℕ) (Done : Type 0) (old new : List (List Elem)) → HasCounted NumberStep i old new → i ≡ length numbers → Appends Among OfAny Done old new
   numbers_end i Done old new w e = count_ends NumberStep i OfAny (length numbers) Done old new w e by_number number_by
 
 -- all axioms with the atom on the left are candidates

@@ -7,10 +7,11 @@ use Rattle.cd_base.specs.declared.normal.Conj.{Conj}
 use Rattle.cd_base.specs.declared.normal.Normal.{Normal}
 use Rattle.cd_clause.specs.Rules.{Rests}
 use Rattle.cd_clause.specs.declared.elem.Elem.{Elem}
-use Rattle.cd_rules.specs.Appends.{Appends}
+use Rattle.cd_base.specs.Appends.{Appends}
+use Rattle.cd_rules.specs.Among.{Among}
+use Rattle.cd_base.proofs.Appending.{otherwise}
 use Rattle.cd_rules.specs.Facts.{IsPicked}
 use Rattle.cd_rules.specs.Steps.{IsConBy}
-use Rattle.cd_rules.proofs.Appending.{otherwise}
 use Rattle.cd_rules.proofs.Counted.{HasCounted, OfBelow, count_ends, count_goes, count_leaves, count_passes, count_stops}
 use Rattle.cd_rules.proofs.ConChoices.{IsFrom}
 
@@ -66,7 +67,7 @@ module _ (n : Normal) (clauses : List (List Elem)) (choices : List ℕ) (x : Con
     is_at = get_or_read left j a lt r 0 ∙ ap (λ (w : List ℕ). get_or w j 0) e
 
     of_place : (taken right : List ℕ) (Done : Type 0) (mid new : List (List Elem)) → right ≡ x.right → a ≡ atom → taken ≡ remove left j
-        → Appends (IsFrom n clauses choices taken others right) Done mid new → Appends (PlaceStep j) Done mid new
+        → Appends Among (IsFrom n clauses choices taken others right) Done mid new → Appends Among (PlaceStep j) Done mid new
     of_place taken right Done mid new f is t w =
         let s : taken ≡ remove x.left j = t ∙ ap (λ (v : List ℕ). remove v j) e in
         otherwise (IsFrom n clauses choices taken others right) (PlaceStep j) Done Done mid new
@@ -75,7 +76,7 @@ module _ (n : Normal) (clauses : List (List Elem)) (choices : List ℕ) (x : Con
 
     -- one more place, at which the atom stands
     pub place_goes : (taken right : List ℕ) (Done : Type 0) (mid new : List (List Elem)) → HasCounted PlaceStep j old mid → right ≡ x.right → a ≡ atom → taken ≡ remove left j
-        → Appends (IsFrom n clauses choices taken others right) Done mid new → Done → HasCounted PlaceStep (j + 1) old new
+        → Appends Among (IsFrom n clauses choices taken others right) Done mid new → Done → HasCounted PlaceStep (j + 1) old new
     place_goes taken right Done mid new w f is t c done = count_goes PlaceStep j Done old mid new w (of_place taken right Done mid new f is t c) done
 
     -- and one of another atom
@@ -84,12 +85,12 @@ module _ (n : Normal) (clauses : List (List Elem)) (choices : List ℕ) (x : Con
 
     -- the last place, which was not done with
     pub place_stops : (taken right : List ℕ) (Done Done' : Type 0) (mid new : List (List Elem)) → HasCounted PlaceStep j old mid → right ≡ x.right → a ≡ atom → taken ≡ remove left j
-        → Appends (IsFrom n clauses choices taken others right) Done mid new → (Done' → ⊥) → Appends OfAxiom Done' old new
+        → Appends Among (IsFrom n clauses choices taken others right) Done mid new → (Done' → ⊥) → Appends Among OfAxiom Done' old new
     place_stops taken right Done Done' mid new w f is t c undone =
         count_stops PlaceStep j OfAxiom (length x.left) Done Done' old mid new w (of_place taken right Done mid new f is t c) (subst (λ v. j < length v) e lt) by_place undone
 
-    pub places_left : (Done : Type 0) (mid : List (List Elem)) → HasCounted PlaceStep j old mid → (Done → ⊥) → Appends OfAxiom Done old mid
+    pub places_left : (Done : Type 0) (mid : List (List Elem)) → HasCounted PlaceStep j old mid → (Done → ⊥) → Appends Among OfAxiom Done old mid
     places_left Done mid w undone = count_leaves PlaceStep j OfAxiom (length x.left) Done old mid w (let l : j < length x.left = subst (λ v. j < length v) e lt in omega arith) by_place undone
 
-  pub places_end : (j : ℕ) (left : List ℕ) (Done : Type 0) (old new : List (List Elem)) → HasCounted PlaceStep j old new → left ≡ x.left → j ≡ length left → Appends OfAxiom Done old new
+  pub places_end : (j : ℕ) (left : List ℕ) (Done : Type 0) (old new : List (List Elem)) → HasCounted PlaceStep j old new → left ≡ x.left → j ≡ length left → Appends Among OfAxiom Done old new
   places_end j left Done old new w e l = count_ends PlaceStep j OfAxiom (length x.left) Done old new w (l ∙ ap length e) by_place place_by

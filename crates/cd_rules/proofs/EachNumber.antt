@@ -5,7 +5,8 @@ use Rattle.cd_base.specs.Lists.{Member}
 use Rattle.cd_base.proofs.Members.{member_get}
 use Rattle.cd_clause.specs.declared.elem.Elem.{Elem}
 use Rattle.cd_clause.specs.Numbers.{picked}
-use Rattle.cd_rules.specs.Appends.{Appends}
+use Rattle.cd_base.specs.Appends.{Appends}
+use Rattle.cd_rules.specs.Among.{Among}
 use Rattle.cd_rules.specs.Walks.{ByOne}
 use Rattle.cd_rules.proofs.EachItem.{SoFar, goes_on, stops, ends}
 
@@ -32,7 +33,7 @@ module _ (Q : List Elem → List Elem → Type 0) (clauses : List (List Elem)) (
 
   -- after the last number
   pub ends_with : (P : List Elem → Type 0) (i : ℕ) {Done : Type 0} {old new : List (List Elem)} → length numbers ≤ i
-      → SoFarWith i old new → ((d : List Elem) → ByOne Q (picked clauses numbers) d → P d) → ((d : List Elem) → P d → ByOne Q (picked clauses numbers) d) → Appends P Done old new
+      → SoFarWith i old new → ((d : List Elem) → ByOne Q (picked clauses numbers) d → P d) → ((d : List Elem) → P d → ByOne Q (picked clauses numbers) d) → Appends Among P Done old new
   ends_with P i l a f g = ends P (λ m. Q (get_or clauses m [])) numbers i l a (λ d p. f d (by_clause d p)) (λ d p. by_number d (g d p))
 
   module _ (i : ℕ) (l : i < length numbers) (within : (k : ℕ) → Member k numbers → k < length clauses) where
@@ -40,14 +41,14 @@ module _ (Q : List Elem → List Elem → Type 0) (clauses : List (List Elem)) (
     in_range = within (get_or numbers i 0) (member_get numbers i 0 l)
 
     module _ (c : List Elem) (is : c ≡ get_or clauses (get_or numbers i 0) c) where
-      read : {Done : Type 0} {old new : List (List Elem)} → Appends (Q c) Done old new → Appends (Q (get_or clauses (get_or numbers i 0) [])) Done old new
-      read {Done = Done} {old = old} {new = new} a = subst (λ w. Appends (Q w) Done old new) (get_or_read clauses (get_or numbers i 0) c in_range is []) a
+      read : {Done : Type 0} {old new : List (List Elem)} → Appends Among (Q c) Done old new → Appends Among (Q (get_or clauses (get_or numbers i 0) [])) Done old new
+      read {Done = Done} {old = old} {new = new} a = subst (λ w. Appends Among (Q w) Done old new) (get_or_read clauses (get_or numbers i 0) c in_range is []) a
 
       -- after one number more
-      pub goes_on_with : {Done : Type 0} {old mid new : List (List Elem)} → SoFarWith i old mid → Appends (Q c) Done mid new → Done → SoFarWith (i + 1) old new
+      pub goes_on_with : {Done : Type 0} {old mid new : List (List Elem)} → SoFarWith i old mid → Appends Among (Q c) Done mid new → Done → SoFarWith (i + 1) old new
       goes_on_with a b h = goes_on (λ m. Q (get_or clauses m [])) numbers i (get_or numbers i 0) 0 l refl a (read b) h
 
       -- where the work for a number was given up
       pub stops_with : (P : List Elem → Type 0) {Done Done' : Type 0} {old mid new : List (List Elem)}
-          → SoFarWith i old mid → Appends (Q c) Done mid new → (Done' → ⊥) → ((d : List Elem) → ByOne Q (picked clauses numbers) d → P d) → Appends P Done' old new
+          → SoFarWith i old mid → Appends Among (Q c) Done mid new → (Done' → ⊥) → ((d : List Elem) → ByOne Q (picked clauses numbers) d → P d) → Appends Among P Done' old new
       stops_with P a b h f = stops (λ m. Q (get_or clauses m [])) numbers i (get_or numbers i 0) 0 l refl P a (read b) h (λ d p. f d (by_clause d p))

@@ -14,7 +14,7 @@ use Rattle.cd_rules.specs.Parts.{IsRightOf, right_of}
 use Rattle.cd_rules.specs.Steps.{IsFree, IsInit}
 use Rattle.cd_rules.specs.Uses.{FromKey}
 use Rattle.cd_rules.proofs.Found.{found_numbers, number_found, filtered_member}
-use Rattle.cd_rules.proofs.Walked.{OfOne}
+use Rattle.cd_base.proofs.Appending.{OfOne}
 
 -- ---- axioms
 

@@ -1,5 +1,5 @@
 pub mod Alls
-pub mod Appending
+pub mod Among
 pub mod Backs
 pub mod ConChoices
 pub mod ConNumbers
@@ -24,5 +24,4 @@ pub mod SameSets
 pub mod Searched
 pub mod Tried
 pub mod Using
-pub mod Walked
 pub mod Without

@@ -10,7 +10,7 @@ use Rattle.cd_clause.specs.declared.elem.Elem.{Elem}
 use Rattle.cd_clause.specs.declared.elem.Elem.TheVariants.{Plain}
 use Rattle.cd_rules.specs.Parts.{IsInitBy}
 use Rattle.cd_rules.specs.Steps.{IsInit}
-use Rattle.cd_rules.proofs.Walked.{OfOne}
+use Rattle.cd_base.proofs.Appending.{OfOne}
 
 code_of_plain : (l : Lit) → l.negated ≡ false → code l ≡ plain l.atom
 code_of_plain l e = ap (λ b. cond b (2 * l.atom + 1) (2 * l.atom)) e

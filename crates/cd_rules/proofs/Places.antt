@@ -12,11 +12,13 @@ use Rattle.cd_clause.specs.declared.elem.Elem.TheVariants.{Plain}
 use Rattle.cd_clause.specs.Elements.{is_before, Eligible, rest}
 use Rattle.cd_rules.specs.declared.facts.BackFact.{BackFact}
 use Rattle.cd_rules.specs.declared.facts.DeadFact.{DeadFact}
-use Rattle.cd_rules.specs.Appends.{Appends}
+use Rattle.cd_base.specs.Appends.{Appends}
+use Rattle.cd_rules.specs.Among.{Among}
+use Rattle.cd_base.proofs.Appending.{both, otherwise}
+use Rattle.cd_rules.proofs.Among.{among_grows}
 use Rattle.cd_rules.specs.Elems.{IsOfElem}
 use Rattle.cd_rules.specs.Facts.{IsPicked}
 use Rattle.cd_rules.specs.Uses.{FromClause}
-use Rattle.cd_rules.proofs.Appending.{both, otherwise}
 use Rattle.cd_rules.proofs.Others.{of_elem_same}
 use Rattle.cd_rules.proofs.Using.{IsOfSome, from_clause_some, some_from_clause}
 use Rattle.cd_rules.proofs.Without.{without_rest}
@@ -41,14 +43,14 @@ module _ (n : Normal) (key : List ℕ) (Has : List Elem → Type 0) (backs : Lis
   first_more i d q = (q.0, omega (arith, q.1), q.2)
 
   -- the element at the place isn't eligible
-  skipped : (i : ℕ) (Done : Type 0) (old new : List (List Elem)) → (Eligible n (get_or p i (Plain 0)) p → ⊥) → Appends (IsOfFirst i) Done old new → Appends (IsOfFirst (i + 1)) Done old new
+  skipped : (i : ℕ) (Done : Type 0) (old new : List (List Elem)) → (Eligible n (get_or p i (Plain 0)) p → ⊥) → Appends Among (IsOfFirst i) Done old new → Appends Among (IsOfFirst (i + 1)) Done old new
   skipped i Done old new f a = otherwise (IsOfFirst i) (IsOfFirst (i + 1)) Done Done old new (first_more i)
       (λ h d q. elim (first_cases i d q) [ inl z ↦ z | inr z ↦ absurd (f z.0) ]) (λ h. h) a
 
   -- it is, and the rules were tried for it
   tried : (i : ℕ) (Done Done' : Type 0) (e : Elem) (others : List Elem) (old mid new : List (List Elem)) → e ≡ get_or p i (Plain 0) → Eligible n (get_or p i (Plain 0)) p
-      → SameSet others (rest (get_or p i (Plain 0)) p) → (Done' → Done) → Appends (IsOfFirst i) (Unit {0}) old mid → Appends (IsOfElem n key Has backs deads e others) Done mid new
-      → Appends (IsOfFirst (i + 1)) Done' old new
+      → SameSet others (rest (get_or p i (Plain 0)) p) → (Done' → Done) → Appends Among (IsOfFirst i) (Unit {0}) old mid → Appends Among (IsOfElem n key Has backs deads e others) Done mid new
+      → Appends Among (IsOfFirst (i + 1)) Done' old new
   tried i Done Done' e others old mid new z el s f a b =
       let at = get_or p i (Plain 0) in
       let R = λ (d : List Elem). IsOfElem n key Has backs deads e others d in
@@ -62,7 +64,7 @@ module _ (n : Normal) (key : List ℕ) (Has : List Elem → Type 0) (backs : Lis
         | inr w ↦ inr (subst (λ v. IsOfElem n key Has backs deads v others d) (sym z) (of_elem_same n key Has backs deads (rest at p) others (s.1, s.0) d at w.1))
       ])
       (λ h. (tt, f h))
-      (both (IsOfFirst i) R (Unit {0}) Done old mid new a b)
+      (both among_grows (IsOfFirst i) R (Unit {0}) Done old mid new a b)
 
   first_some : (i : ℕ) (d : List Elem) → IsOfFirst i d → IsOfSome n key Has backs deads p d
   first_some i d q = (get_or p q.0 (Plain 0), q.2.0, q.2.1)
@@ -88,22 +90,22 @@ module _ (n : Normal) (key : List ℕ) (clauses : List (List Elem)) (live : List
   -- the steps in the words of the code
 
   pub skipped_here : (i : ℕ) (normal : Normal) (b : Bool) (old new : List (List Elem)) → normal ≡ n → (b ≡ true) ↔ Eligible normal (get_or p i (Plain 0)) p → b ≡ false
-      → Appends (IsOfFirst n key Has backs deads p i) (Unit {0}) old new → Appends (IsOfFirst n key Has backs deads p (i + 1)) (Unit {0}) old new
+      → Appends Among (IsOfFirst n key Has backs deads p i) (Unit {0}) old new → Appends Among (IsOfFirst n key Has backs deads p (i + 1)) (Unit {0}) old new
   skipped_here i normal b old new q t f a =
       skipped n key Has backs deads p i (Unit {0}) old new (λ el. both_ways b f (t.1 (subst (λ v. Eligible v (get_or p i (Plain 0)) p) (sym q) el))) a
 
   pub tried_here : (i : ℕ) (normal : Normal) (b : Bool) (numbers choices : List ℕ) (elems : List Elem) (elem : Elem) (others : List Elem) (Done Done' : Type 0) (old mid new : List (List Elem))
       → normal ≡ n → (b ≡ true) ↔ Eligible normal (get_or p i (Plain 0)) p → b ≡ true → numbers ≡ choices → choices ≡ premise ∷ live
       → elems ≡ p → Ascending is_before p → i < length elems → elem ≡ get_or elems i elem → others ≡ remove p i → (Done' → Done)
-      → Appends (IsOfFirst n key Has backs deads p i) (Unit {0}) old mid → Appends (IsOfElem n key (IsPicked clauses numbers) backs deads elem others) Done mid new
-      → Appends (IsOfFirst n key Has backs deads p (i + 1)) Done' old new
+      → Appends Among (IsOfFirst n key Has backs deads p i) (Unit {0}) old mid → Appends Among (IsOfElem n key (IsPicked clauses numbers) backs deads elem others) Done mid new
+      → Appends Among (IsOfFirst n key Has backs deads p (i + 1)) Done' old new
   tried_here i normal b numbers choices elems elem others Done Done' old mid new q t f u v w s m r o h a c =
       let k : i < length p = subst (λ z. i < length z) w m in
       let z : elem ≡ get_or p i (Plain 0) = get_or_read p i elem k (subst (λ z. elem ≡ get_or z i elem) w r) (Plain 0) in
       tried n key Has backs deads p i Done Done' elem others old mid new z
       (subst (λ z. Eligible z (get_or p i (Plain 0)) p) q (t.0 f))
       (subst (λ z. SameSet z (rest (get_or p i (Plain 0)) p)) (sym o) (without_rest p i s k))
-      h a (subst (λ z. Appends (IsOfElem n key (IsPicked clauses z) backs deads elem others) Done mid new) (u ∙ v) c)
+      h a (subst (λ z. Appends Among (IsOfElem n key (IsPicked clauses z) backs deads elem others) Done mid new) (u ∙ v) c)
 
 -- the numbers of the premise and of what is live are those of clauses
 pub choices_below : (live xs ys : List ℕ) (premise count : ℕ) → xs ≡ ys → ys ≡ premise ∷ live → premise < count → ((k : ℕ) → Member k live → k < count) → (k : ℕ) → Member k xs → k < count

@@ -1,4 +1,4 @@
-pub mod Appends
+pub mod Among
 pub mod Candidates
 pub mod Elems
 pub mod Facts

@@ -3,7 +3,8 @@ ghost use Rattle.std.specs.Prelude.{◌<◌, ◌∷◌, ◌++◌, ℕ, length, s
 ghost use Rattle.cd_base.specs.Keys.{key_with, plain};
 ghost use Rattle.cd_base.specs.Lists.{Member, SameSet};
 ghost use Rattle.cd_clause.specs.declared.elem.Elem.TheVariants.{Plain, Exist};
-ghost use Rattle.cd_rules.specs.Appends.{Appends};
+ghost use Rattle.cd_base.specs.Appends.{Appends};
+ghost use Rattle.cd_rules.specs.Among.{Among};
 ghost use Rattle.cd_rules.specs.Facts.{IsPicked};
 ghost use Rattle.cd_rules.specs.Steps.{IsAllOfAtom, IsAllOfExist};
 ghost use Rattle.cd_rules.specs.Walks.{ByOne, IsAllAtAtom, IsAllAtExist, IsAllBy, IsAllWithAtoms, IsAllWithExists};
@@ -30,7 +31,7 @@ pub(crate) fn all_of_atom(
     out: &mut Vec<Clause>,
 ) -> Result<(), Memory>
     requires choices { (k : ℕ) → Member k choices.now → k < length clauses.now }
-    ensures { Appends (IsAllOfAtom index.now.normal (IsPicked clauses.now choices.now) atom others.now) (IsOk result) out.old.items out.new.items }
+    ensures { Appends Among (IsAllOfAtom index.now.normal (IsPicked clauses.now choices.now) atom others.now) (IsOk result) out.old.items out.new.items }
 {
     let triples = alls(index, atom);
     if triples.is_empty() {
@@ -51,7 +52,7 @@ fn all_with_exists(
     others: &Clause,
     out: &mut Vec<Clause>,
 ) -> Result<(), Memory>
-    ensures { Appends (IsAllWithExists index.now.normal triples.now others.now clause.now) (IsOk result) out.old.items out.new.items }
+    ensures { Appends Among (IsAllWithExists index.now.normal triples.now others.now clause.now) (IsOk result) out.old.items out.new.items }
 {
     for i in 0..clause.elems().len() {
         all_at_exist(index, triples, clause, i, others, out)?;
@@ -70,7 +71,7 @@ fn all_at_exist(
     out: &mut Vec<Clause>,
 ) -> Result<(), Memory>
     requires { i < length clause.now }
-    ensures { Appends (IsAllAtExist index.now.normal triples.now others.now clause.now (slice_index_or clause.now i (Plain 0))) (IsOk result) out.old.items out.new.items }
+    ensures { Appends Among (IsAllAtExist index.now.normal triples.now others.now clause.now (slice_index_or clause.now i (Plain 0))) (IsOk result) out.old.items out.new.items }
 {
     match &clause.elems()[i] {
         Elem::Plain(_) => Ok(()),
@@ -94,7 +95,7 @@ pub(crate) fn all_of_exist(
     out: &mut Vec<Clause>,
 ) -> Result<(), Memory>
     requires choices { (k : ℕ) → Member k choices.now → k < length clauses.now }
-    ensures { Appends (IsAllOfExist index.now.normal (IsPicked clauses.now choices.now) role key.now others.now) (IsOk result) out.old.items out.new.items }
+    ensures { Appends Among (IsAllOfExist index.now.normal (IsPicked clauses.now choices.now) role key.now others.now) (IsOk result) out.old.items out.new.items }
 {
     for number in choices {
         all_with_atoms(index, &clauses[*number], role, key, others, out)?;
@@ -111,7 +112,7 @@ fn all_with_atoms(
     others: &Clause,
     out: &mut Vec<Clause>,
 ) -> Result<(), Memory>
-    ensures { Appends (IsAllWithAtoms index.now.normal role key.now others.now clause.now) (IsOk result) out.old.items out.new.items }
+    ensures { Appends Among (IsAllWithAtoms index.now.normal role key.now others.now clause.now) (IsOk result) out.old.items out.new.items }
 {
     for i in 0..clause.elems().len() {
         all_at_atom(index, clause, i, role, key, others, out)?;
@@ -131,7 +132,7 @@ fn all_at_atom(
     out: &mut Vec<Clause>,
 ) -> Result<(), Memory>
     requires { i < length clause.now }
-    ensures { Appends (IsAllAtAtom index.now.normal role key.now others.now clause.now (slice_index_or clause.now i (Plain 0))) (IsOk result) out.old.items out.new.items }
+    ensures { Appends Among (IsAllAtAtom index.now.normal role key.now others.now clause.now (slice_index_or clause.now i (Plain 0))) (IsOk result) out.old.items out.new.items }
 {
     match &clause.elems()[i] {
         Elem::Exist(_, _) => Ok(()),
@@ -159,7 +160,7 @@ fn all_by(
     right: &Clause,
     out: &mut Vec<Clause>,
 ) -> Result<(), Memory>
-    ensures { Appends (ByOne (IsAllBy index.now.normal role key.now left.now right.now) triples.now) (IsOk result) out.old.items out.new.items }
+    ensures { Appends Among (ByOne (IsAllBy index.now.normal role key.now left.now right.now) triples.now) (IsOk result) out.old.items out.new.items }
 {
     for triple in triples {
         all_by_one(index, triple, role, key, left, right, out)?;
@@ -178,7 +179,7 @@ fn all_by_one(
     right: &Clause,
     out: &mut Vec<Clause>,
 ) -> Result<(), Memory>
-    ensures { Appends (IsAllBy index.now.normal role key.now left.now right.now triple.now) (IsOk result) out.old.items out.new.items }
+    ensures { Appends Among (IsAllBy index.now.normal role key.now left.now right.now triple.now) (IsOk result) out.old.items out.new.items }
 {
     if !is_under(index, role, triple.role) {
         return Ok(());

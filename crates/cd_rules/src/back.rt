@@ -3,7 +3,8 @@ ghost use Rattle.std.specs.Prelude.{◌<◌, ◌∷◌, ℕ, length, IfOk, IsOk,
 ghost use Rattle.cd_base.specs.Keys.{key_with, negated};
 ghost use Rattle.cd_base.specs.Lists.{Member, SameSet};
 ghost use Rattle.cd_clause.specs.declared.elem.Elem.TheVariants.{Plain, Exist};
-ghost use Rattle.cd_rules.specs.Appends.{Appends};
+ghost use Rattle.cd_base.specs.Appends.{Appends};
+ghost use Rattle.cd_rules.specs.Among.{Among};
 ghost use Rattle.cd_rules.specs.Steps.{IsBackFrom, IsBackOf};
 ghost use Rattle.cd_rules.specs.Uses.{FromBack};
 ghost use Rattle.cd_rules.specs.Walks.{IsBackBy, IsBackByFact, IsBackWith};
@@ -30,7 +31,7 @@ pub(crate) fn back(
     others: &Clause,
     out: &mut Vec<Clause>,
 ) -> Result<(), Memory>
-    ensures { Appends (IsBackOf index.now.normal role key.now atom others.now) (IsOk result) out.old.items out.new.items }
+    ensures { Appends Among (IsBackOf index.now.normal role key.now atom others.now) (IsOk result) out.old.items out.new.items }
 {
     for triple in backs(index, atom) {
         back_by(index, triple, role, key, atom, others, out)?;
@@ -48,7 +49,7 @@ fn back_by(
     others: &Clause,
     out: &mut Vec<Clause>,
 ) -> Result<(), Memory>
-    ensures { Appends (IsBackBy index.now.normal role key.now atom others.now triple.now) (IsOk result) out.old.items out.new.items }
+    ensures { Appends Among (IsBackBy index.now.normal role key.now atom others.now triple.now) (IsOk result) out.old.items out.new.items }
 {
     if !is_under(index, role, triple.role) {
         return Ok(());
@@ -85,7 +86,7 @@ pub(crate) fn back_from(
     others: &Clause,
     out: &mut Vec<Clause>,
 ) -> Result<(), Memory>
-    ensures { Appends (IsBackFrom index.now.normal facts.now role key.now others.now) (IsOk result) out.old.items out.new.items }
+    ensures { Appends Among (IsBackFrom index.now.normal facts.now role key.now others.now) (IsOk result) out.old.items out.new.items }
 {
     for fact in facts {
         back_by_fact(index, fact, role, key, others, out)?;
@@ -102,7 +103,7 @@ fn back_by_fact(
     others: &Clause,
     out: &mut Vec<Clause>,
 ) -> Result<(), Memory>
-    ensures { Appends (IsBackByFact index.now.normal role key.now others.now fact.now) (IsOk result) out.old.items out.new.items }
+    ensures { Appends Among (IsBackByFact index.now.normal role key.now others.now fact.now) (IsOk result) out.old.items out.new.items }
 {
     if !are_same(fact.role, &fact.key, role, key) {
         return Ok(());
@@ -121,7 +122,7 @@ pub fn on_back(
     out: &mut Vec<Clause>,
 ) -> Result<(), Memory>
     requires live { (k : ℕ) → Member k live.now → k < length clauses.now }
-    ensures { (key : List ℕ) → Appends (FromBack index.now.normal key clauses.now live.now fact.now) (IsOk result) out.old.items out.new.items }
+    ensures { (key : List ℕ) → Appends Among (FromBack index.now.normal key clauses.now live.now fact.now) (IsOk result) out.old.items out.new.items }
 {
     for number in live {
         back_with(index, &clauses[*number], fact, out)?;
@@ -136,7 +137,7 @@ fn back_with(
     fact: &BackFact,
     out: &mut Vec<Clause>,
 ) -> Result<(), Memory>
-    ensures { Appends (IsBackWith index.now.normal fact.now clause.now) (IsOk result) out.old.items out.new.items }
+    ensures { Appends Among (IsBackWith index.now.normal fact.now clause.now) (IsOk result) out.old.items out.new.items }
 {
     match rest_beside(index, clause, fact.role, &fact.key)? {
         Some(others) => back(index, fact.role, &fact.key, fact.atom, &others, out),

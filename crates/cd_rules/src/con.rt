@@ -5,7 +5,8 @@ ghost use Rattle.cd_clause.specs.Elements.{Eligible, rest};
 ghost use Rattle.cd_clause.specs.Rules.{Rests};
 ghost use Rattle.cd_clause.specs.declared.elem.Elem.{Elem};
 ghost use Rattle.cd_clause.specs.declared.elem.Elem.TheVariants.{Plain};
-ghost use Rattle.cd_rules.specs.Appends.{Appends};
+ghost use Rattle.cd_base.specs.Appends.{Appends};
+ghost use Rattle.cd_rules.specs.Among.{Among};
 ghost use Rattle.cd_rules.specs.Candidates.{AreCandidates};
 ghost use Rattle.cd_rules.specs.Facts.{IsPicked};
 ghost use Rattle.cd_rules.specs.Steps.{IsCon, IsConBy};
@@ -41,7 +42,7 @@ pub(crate) fn con(
     out: &mut Vec<Clause>,
 ) -> Result<(), Memory>
     requires choices { (k : ℕ) → Member k choices.now → k < length clauses.now }
-    ensures { Appends (IsCon index.now.normal (IsPicked clauses.now choices.now) atom others.now) (IsOk result) out.old.items out.new.items }
+    ensures { Appends Among (IsCon index.now.normal (IsPicked clauses.now choices.now) atom others.now) (IsOk result) out.old.items out.new.items }
 {
     let all = with_left(index, atom);
     let fewer = candidates(alloc, index, clauses, choices, atom, all.len())?;
@@ -73,7 +74,7 @@ fn con_by_each(
 ) -> Result<(), Memory>
     requires numbers { AreCandidates index.now.normal (IsPicked clauses.now choices.now) atom numbers.now }
     requires choices { (k : ℕ) → Member k choices.now → k < length clauses.now }
-    ensures { Appends (IsCon index.now.normal (IsPicked clauses.now choices.now) atom others.now) (IsOk result) out.old.items out.new.items }
+    ensures { Appends Among (IsCon index.now.normal (IsPicked clauses.now choices.now) atom others.now) (IsOk result) out.old.items out.new.items }
 {
     let normal = index.normal();
     let axioms = normal.n1.items();
@@ -104,7 +105,7 @@ fn con_by(
     out: &mut Vec<Clause>,
 ) -> Result<(), Memory>
     requires choices { (k : ℕ) → Member k choices.now → k < length clauses.now }
-    ensures { Appends (IsConBy normal.now (IsPicked clauses.now choices.now) conj.now atom others.now) (IsOk result) out.old.items out.new.items }
+    ensures { Appends Among (IsConBy normal.now (IsPicked clauses.now choices.now) conj.now atom others.now) (IsOk result) out.old.items out.new.items }
 {
     let left = conj.left.items();
     let right = conj.right.items();
@@ -142,7 +143,7 @@ fn con_from(
     out: &mut Vec<Clause>,
 ) -> Result<(), Memory>
     requires choices { (k : ℕ) → Member k choices.now → k < length clauses.now }
-    ensures { Appends (λ d. (m : List Elem) × Rests normal.now (IsPicked clauses.now choices.now) taken.now m × SameSet d ((base.now ++ m) ++ map Plain right.now)) (IsOk result) out.old.items out.new.items }
+    ensures { Appends Among (λ d. (m : List Elem) × Rests normal.now (IsPicked clauses.now choices.now) taken.now m × SameSet d ((base.now ++ m) ++ map Plain right.now)) (IsOk result) out.old.items out.new.items }
 {
     match taken {
         [] => {

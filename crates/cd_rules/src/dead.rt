@@ -1,7 +1,8 @@
 //! The rule Dead.
 ghost use Rattle.std.specs.Prelude.{◌≡◌, ◌<◌, ◌↔◌, ℕ, length, true, IsOk, List};
 ghost use Rattle.cd_base.specs.Lists.{Member};
-ghost use Rattle.cd_rules.specs.Appends.{Appends};
+ghost use Rattle.cd_base.specs.Appends.{Appends};
+ghost use Rattle.cd_rules.specs.Among.{Among};
 ghost use Rattle.cd_rules.specs.Facts.{IsDead};
 ghost use Rattle.cd_rules.specs.Steps.{IsDeadFrom};
 ghost use Rattle.cd_rules.specs.Uses.{FromDead};
@@ -27,7 +28,7 @@ pub(crate) fn dead_from(
     others: &Clause,
     out: &mut Vec<Clause>,
 ) -> Result<(), Memory>
-    ensures { Appends (IsDeadFrom facts.now role key.now others.now) (IsOk result) out.old.items out.new.items }
+    ensures { Appends Among (IsDeadFrom facts.now role key.now others.now) (IsOk result) out.old.items out.new.items }
 {
     if is_dead(facts, role, key) {
         out.push(others.copy()?)?;
@@ -58,7 +59,7 @@ pub fn on_dead(
     out: &mut Vec<Clause>,
 ) -> Result<(), Memory>
     requires live { (k : ℕ) → Member k live.now → k < length clauses.now }
-    ensures { (key : List ℕ) → Appends (FromDead index.now.normal key clauses.now live.now fact.now) (IsOk result) out.old.items out.new.items }
+    ensures { (key : List ℕ) → Appends Among (FromDead index.now.normal key clauses.now live.now fact.now) (IsOk result) out.old.items out.new.items }
 {
     for number in live {
         dead_with(index, &clauses[*number], fact, out)?;
@@ -73,7 +74,7 @@ fn dead_with(
     fact: &DeadFact,
     out: &mut Vec<Clause>,
 ) -> Result<(), Memory>
-    ensures { Appends (IsDeadWith index.now.normal fact.now clause.now) (IsOk result) out.old.items out.new.items }
+    ensures { Appends Among (IsDeadWith index.now.normal fact.now clause.now) (IsOk result) out.old.items out.new.items }
 {
     if let Some(others) = rest_beside(index, clause, fact.role, &fact.key)? {
         out.push(others)?;

@@ -1,6 +1,7 @@
 //! The rule Ex.
 ghost use Rattle.std.specs.Prelude.{IsOk};
-ghost use Rattle.cd_rules.specs.Appends.{Appends};
+ghost use Rattle.cd_base.specs.Appends.{Appends};
+ghost use Rattle.cd_rules.specs.Among.{Among};
 ghost use Rattle.cd_rules.specs.Parts.{IsExBy};
 ghost use Rattle.cd_rules.specs.Steps.{IsEx};
 
@@ -24,7 +25,7 @@ pub(crate) fn ex(
     others: &Clause,
     out: &mut Vec<Clause>,
 ) -> Result<(), Memory>
-    ensures { Appends (IsEx index.now.normal atom others.now) (IsOk result) out.old.items out.new.items }
+    ensures { Appends Among (IsEx index.now.normal atom others.now) (IsOk result) out.old.items out.new.items }
 {
     let mut rest = gives(index, atom);
     'axioms: while let [edge, later @ ..] = rest {
@@ -41,7 +42,7 @@ fn push_edge(
     others: &Clause,
     out: &mut Vec<Clause>,
 ) -> Result<(), Memory>
-    ensures { Appends (IsExBy edge.now others.now) (IsOk result) out.old.items out.new.items }
+    ensures { Appends Among (IsExBy edge.now others.now) (IsOk result) out.old.items out.new.items }
 {
     let key = Key::single(alloc, edge.other);
     out.push(others.with(Elem::Exist(edge.role, key))?)?;

@@ -2,7 +2,8 @@
 ghost use Rattle.std.specs.Prelude.{◌≡◌, ◌<◌, length, map, IfOk, IsOk};
 ghost use Rattle.cd_base.specs.Lists.{SameSet};
 ghost use Rattle.cd_clause.specs.declared.elem.Elem.TheVariants.{Plain};
-ghost use Rattle.cd_rules.specs.Appends.{Appends};
+ghost use Rattle.cd_base.specs.Appends.{Appends};
+ghost use Rattle.cd_rules.specs.Among.{Among};
 ghost use Rattle.cd_rules.specs.Parts.{IsInitBy, IsRightOf};
 ghost use Rattle.cd_rules.specs.Steps.{IsInit, IsFree};
 ghost use Rattle.cd_rules.specs.Uses.{FromKey};
@@ -16,7 +17,7 @@ use std::alloc::Global;
 ///
 /// Linear in the key and in the axioms without a left side. `Memory` leaves such conclusions alone behind.
 pub fn on_key(alloc: Global, index: &Index, key: &Key, out: &mut Vec<Clause>) -> Result<(), Memory>
-    ensures { Appends (FromKey index.now.normal key.now) (IsOk result) out.old.items out.new.items }
+    ensures { Appends Among (FromKey index.now.normal key.now) (IsOk result) out.old.items out.new.items }
 {
     init(alloc, key, out)?;
     free(alloc, index, out)
@@ -30,7 +31,7 @@ pub fn on_key(alloc: Global, index: &Index, key: &Key, out: &mut Vec<Clause>) ->
 ///
 /// Linear in the key.
 fn init(alloc: Global, key: &Key, out: &mut Vec<Clause>) -> Result<(), Memory>
-    ensures { Appends (IsInit key.now) (IsOk result) out.old.items out.new.items }
+    ensures { Appends Among (IsInit key.now) (IsOk result) out.old.items out.new.items }
 {
     let mut rest = key.lits();
     'lits: while let [lit, later @ ..] = rest {
@@ -42,7 +43,7 @@ fn init(alloc: Global, key: &Key, out: &mut Vec<Clause>) -> Result<(), Memory>
 
 /// The clause of the literal's atom, where the literal isn't negated. Constant time.
 fn push_atom(alloc: Global, lit: &Lit, out: &mut Vec<Clause>) -> Result<(), Memory>
-    ensures { Appends (IsInitBy lit.now) (IsOk result) out.old.items out.new.items }
+    ensures { Appends Among (IsInitBy lit.now) (IsOk result) out.old.items out.new.items }
 {
     if !lit.negated {
         out.push(atoms_clause(alloc, &[lit.atom])?)?;
@@ -58,7 +59,7 @@ fn push_atom(alloc: Global, lit: &Lit, out: &mut Vec<Clause>) -> Result<(), Memo
 ///
 /// Linear in these axioms.
 fn free(alloc: Global, index: &Index, out: &mut Vec<Clause>) -> Result<(), Memory>
-    ensures { Appends (IsFree index.now.normal) (IsOk result) out.old.items out.new.items }
+    ensures { Appends Among (IsFree index.now.normal) (IsOk result) out.old.items out.new.items }
 {
     let axioms = index.normal().n1.items();
     let mut rest = index.free();
@@ -77,7 +78,7 @@ fn push_right(
     out: &mut Vec<Clause>,
 ) -> Result<(), Memory>
     requires { number < length axioms.now }
-    ensures { Appends (IsRightOf axioms.now number) (IsOk result) out.old.items out.new.items }
+    ensures { Appends Among (IsRightOf axioms.now number) (IsOk result) out.old.items out.new.items }
 {
     out.push(atoms_clause(alloc, axioms[number].right.items())?)?;
     Ok(())

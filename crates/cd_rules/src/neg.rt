@@ -2,7 +2,8 @@
 ghost use Rattle.std.specs.Prelude.{◌≡◌, ◌==◌, map, IsOk};
 ghost use Rattle.std.specs.List.{list_any};
 ghost use Rattle.cd_base.specs.Keys.{code};
-ghost use Rattle.cd_rules.specs.Appends.{Appends};
+ghost use Rattle.cd_base.specs.Appends.{Appends};
+ghost use Rattle.cd_rules.specs.Among.{Among};
 ghost use Rattle.cd_rules.specs.Steps.{IsNeg};
 
 use cd_base::{Atom, Key, Lit, Memory};
@@ -21,7 +22,7 @@ pub(crate) fn neg(
     others: &Clause,
     out: &mut Vec<Clause>,
 ) -> Result<(), Memory>
-    ensures { Appends (IsNeg key.now atom others.now) (IsOk result) out.old.items out.new.items }
+    ensures { Appends Among (IsNeg key.now atom others.now) (IsOk result) out.old.items out.new.items }
 {
     let literal = Lit {
         atom,

@@ -1,7 +1,8 @@
 //! All rules for one premise.
 ghost use Rattle.std.specs.Prelude.{◌≡◌, ◌<◌, ◌∷◌, ℕ, length, IfOk, IsOk};
 ghost use Rattle.cd_base.specs.Lists.{Member};
-ghost use Rattle.cd_rules.specs.Appends.{Appends};
+ghost use Rattle.cd_base.specs.Appends.{Appends};
+ghost use Rattle.cd_rules.specs.Among.{Among};
 ghost use Rattle.cd_rules.specs.Facts.{IsPicked};
 ghost use Rattle.cd_rules.specs.Elems.{IsOfElem};
 ghost use Rattle.cd_rules.specs.Steps.{IsOfAtom, IsOfExist};
@@ -37,7 +38,7 @@ pub fn on_clause(
 ) -> Result<(), Memory>
     requires live { (k : ℕ) → Member k live.now → k < length clauses.now }
     requires premise { premise < length clauses.now }
-    ensures { Appends (FromClause index.now.normal key.now clauses.now live.now premise backs.now deads.now) (IsOk result) out.old.items out.new.items }
+    ensures { Appends Among (FromClause index.now.normal key.now clauses.now live.now premise backs.now deads.now) (IsOk result) out.old.items out.new.items }
 {
     let choices = choices_of(alloc, premise, live)?;
     let clause = &clauses[premise];
@@ -76,7 +77,7 @@ fn on_elem(
     out: &mut Vec<Clause>,
 ) -> Result<(), Memory>
     requires choices { (k : ℕ) → Member k choices.now → k < length clauses.now }
-    ensures { Appends (IsOfElem index.now.normal key.now (IsPicked clauses.now choices.now) backs.now deads.now elem.now others.now) (IsOk result) out.old.items out.new.items }
+    ensures { Appends Among (IsOfElem index.now.normal key.now (IsPicked clauses.now choices.now) backs.now deads.now elem.now others.now) (IsOk result) out.old.items out.new.items }
 {
     match elem {
         Elem::Plain(atom) => on_atom(alloc, index, key, clauses, choices, *atom, others, out),
@@ -98,7 +99,7 @@ fn on_atom(
     out: &mut Vec<Clause>,
 ) -> Result<(), Memory>
     requires choices { (k : ℕ) → Member k choices.now → k < length clauses.now }
-    ensures { Appends (IsOfAtom index.now.normal key.now (IsPicked clauses.now choices.now) atom others.now) (IsOk result) out.old.items out.new.items }
+    ensures { Appends Among (IsOfAtom index.now.normal key.now (IsPicked clauses.now choices.now) atom others.now) (IsOk result) out.old.items out.new.items }
 {
     neg(key, atom, others, out)?;
     ex(alloc, index, atom, others, out)?;
@@ -119,7 +120,7 @@ fn on_exist(
     out: &mut Vec<Clause>,
 ) -> Result<(), Memory>
     requires choices { (k : ℕ) → Member k choices.now → k < length clauses.now }
-    ensures { Appends (IsOfExist index.now.normal (IsPicked clauses.now choices.now) backs.now deads.now role key.now others.now) (IsOk result) out.old.items out.new.items }
+    ensures { Appends Among (IsOfExist index.now.normal (IsPicked clauses.now choices.now) backs.now deads.now role key.now others.now) (IsOk result) out.old.items out.new.items }
 {
     back_from(index, backs, role, key, others, out)?;
     dead_from(deads, role, key, others, out)?;

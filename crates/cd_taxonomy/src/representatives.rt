@@ -5,14 +5,8 @@ ghost use Rattle.cd_taxonomy.specs.Relation.{relation, IsWithin, IsSubsumption};
 ghost use Rattle.cd_taxonomy.specs.Steps.{superclass_counts, representative_list, ArePlaces};
 
 use cd_base::{Answer, Atom, Memory};
-use cd_meaning::Document;
+use cd_meaning::{Document, NOTHING, THING};
 use std::alloc::Global;
-
-/// owl:Thing, by its number.
-const THING: u32 = 0;
-
-/// owl:Nothing, by its number.
-const NOTHING: u32 = 1;
 
 /// The representative of each class, from the numbers of its superclasses and the places of all classes by their names.
 ///

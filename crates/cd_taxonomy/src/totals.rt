@@ -6,11 +6,9 @@ ghost use Rattle.cd_taxonomy.specs.Summary.{IsTaxonomyOf, AreFew, summary_of, me
 use crate::groups::{Group, Summary, Taxonomy};
 use crate::printing::has_reserved;
 use cd_base::Memory;
+use cd_meaning::NOTHING;
 use itoa::Buffer;
 use std::alloc::Global;
-
-/// owl:Nothing, by its number.
-const NOTHING: u32 = 1;
 
 /// How many classes, groups, unsatisfiable classes and printed `SubClassOf` lines the taxonomy of a document has.
 ///

@@ -3,7 +3,7 @@ use Rattle.std.specs.Result.{IsOk}
 use Rattle.std.specs.Vec.Iter.{into_iter_items, into_iter_len}
 use Rattle.std.proofs.lemmas.Grind.{common_steps}
 use Rattle.std.proofs.lemmas.List.{nil_from_length}
-use Rattle.cd_context.proofs.Noting.{failed}
+use Rattle.cd_base.proofs.Appending.{failed}
 use Rattle.cd_context.specs.declared.facts.Note.{Note}
 use Rattle.cd_cell.proofs.Sent.{IsSending, sending_goes, sending_ends}
 use Rattle.cd_cell.proofs.sending.send_all.Goals as goal

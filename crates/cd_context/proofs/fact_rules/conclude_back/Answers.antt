@@ -2,7 +2,8 @@ use Rattle.std.proofs.Common.{◌<◌, ℕ, List, length, sym, subst}
 use Rattle.std.specs.Result.{IsOk}
 use Rattle.cd_base.specs.Lists.{Member}
 use Rattle.cd_clause.specs.declared.elem.Elem.{Elem}
-use Rattle.cd_rules.specs.Appends.{Appends}
+use Rattle.cd_base.specs.Appends.{Appends}
+use Rattle.cd_rules.specs.Among.{Among}
 use Rattle.cd_rules.specs.Uses.{FromBack}
 use Rattle.cd_context.proofs.FactRules.{appends_back}
 use Rattle.cd_context.proofs.fact_rules.conclude_back.Goals as goal
@@ -16,6 +17,6 @@ on_back-done-requires c = record {
 pub returns : goal.returns
 returns c = λ key.
     let n = c.args.index.now.normal in
-    let a : Appends (FromBack n key c.args.store.now.0 c.in_ok-numbers.numbers.items c.args.back.now) (IsOk c.on_back-done.result) c.args.out.now.items c.on_back-done.new.out.items
+    let a : Appends Among (FromBack n key c.args.store.now.0 c.in_ok-numbers.numbers.items c.args.back.now) (IsOk c.on_back-done.result) c.args.out.now.items c.on_back-done.new.out.items
     = rw (← c.clauses.ensures.value, ← c.as_slice.ensures.value) (c.on_back-done.ensures key) in
     appends_back n key c.args.store.now.0 c.args.store.now.1 c.in_ok-numbers.numbers.items c.live-live.ensures.store.in_range c.in_ok-numbers.ensures.live c.args.back.now c.in_ok-numbers.ensures.every _ c.args.out.now.items c.on_back-done.new.out.items a

@@ -2,7 +2,8 @@ use Rattle.std.proofs.Common.{◌<◌, ℕ, List, length, sym, subst}
 use Rattle.std.specs.Result.{IsOk}
 use Rattle.cd_base.specs.Lists.{Member}
 use Rattle.cd_clause.specs.declared.elem.Elem.{Elem}
-use Rattle.cd_rules.specs.Appends.{Appends}
+use Rattle.cd_base.specs.Appends.{Appends}
+use Rattle.cd_rules.specs.Among.{Among}
 use Rattle.cd_rules.specs.Uses.{FromDead}
 use Rattle.cd_context.proofs.FactRules.{appends_dead}
 use Rattle.cd_context.proofs.fact_rules.conclude_dead.Goals as goal
@@ -16,6 +17,6 @@ on_dead-done-requires c = record {
 pub returns : goal.returns
 returns c = λ key.
     let n = c.args.index.now.normal in
-    let a : Appends (FromDead n key c.args.store.now.0 c.in_ok-numbers.numbers.items c.args.dead.now) (IsOk c.on_dead-done.result) c.args.out.now.items c.on_dead-done.new.out.items
+    let a : Appends Among (FromDead n key c.args.store.now.0 c.in_ok-numbers.numbers.items c.args.dead.now) (IsOk c.on_dead-done.result) c.args.out.now.items c.on_dead-done.new.out.items
     = rw (← c.clauses.ensures.value, ← c.as_slice.ensures.value) (c.on_dead-done.ensures key) in
     appends_dead n key c.args.store.now.0 c.args.store.now.1 c.in_ok-numbers.numbers.items c.live-live.ensures.store.in_range c.in_ok-numbers.ensures.live c.args.dead.now c.in_ok-numbers.ensures.every _ c.args.out.now.items c.on_dead-done.new.out.items a

@@ -4,7 +4,7 @@ use Rattle.std.proofs.lemmas.List.{nil_from_length}
 use Rattle.cd_base.specs.Lists.{Member}
 use Rattle.cd_base.specs.declared.normal.Triple.{Triple}
 use Rattle.cd_context.specs.Parts.{IsUsefulBack}
-use Rattle.cd_context.proofs.Noting.{failed, none, OfOne, walk_ends, walk_goes, walk_stops}
+use Rattle.cd_base.proofs.Appending.{OfOne, failed, member_grows, none, walk_ends, walk_goes, walk_stops}
 use Rattle.cd_context.proofs.Owed.{use_found}
 use Rattle.cd_context.proofs.notes.tell_atom.Goals as goal
 
@@ -18,13 +18,13 @@ returns-then-is_empty c =
 
 pub returns-in_err-tell_back : goal.returns-in_err-tell_back
 returns-in_err-tell_back c =
-    walk_stops (IsUsefulBack c.args.index.now.normal c.args.key.now c.args.atom) c.args.links.now c.links.rest.now c.link-item.result (IsOk c.tell_back.result) (IsOk c.from_residual.result)
+    walk_stops member_grows (IsUsefulBack c.args.index.now.normal c.args.key.now c.args.atom) c.args.links.now c.links.rest.now c.link-item.result (IsOk c.tell_back.result) (IsOk c.from_residual.result)
     c.args.out.now.items c.links.out.items c.tell_back.new.out.items
     c.links.invariant c.in-len1-up.len_at_least c.link-item.is c.tell_back.ensures (failed c.from_residual.result c.from_residual.ensures.0)
 
 pub links-preserved : goal.links-preserved
 links-preserved c =
-    walk_goes (IsUsefulBack c.args.index.now.normal c.args.key.now c.args.atom) c.args.links.now c.links.rest.now _ c.link-item.result (true ≡ true)
+    walk_goes member_grows (IsUsefulBack c.args.index.now.normal c.args.key.now c.args.atom) c.args.links.now c.links.rest.now _ c.link-item.result (true ≡ true)
     c.args.out.now.items c.links.out.items c.tell_back.new.out.items
     c.links.invariant refl c.in-len1-up.len_at_least c.link-item.is c.in_ok-tell_back.ensures refl
 

@@ -1,7 +1,7 @@
 use Rattle.std.proofs.Common.{◌≡◌, ◌⊎◌, true, refl}
 use Rattle.std.specs.Result.{IsOk}
 use Rattle.cd_context.specs.Parts.{IsLinkOf, IsToldBy, IsOwedBy}
-use Rattle.cd_context.proofs.Noting.{both, otherwise}
+use Rattle.cd_base.proofs.Appending.{both, member_grows, otherwise}
 use Rattle.cd_context.proofs.owing.owe_one.Goals as goal
 
 pub returns : goal.returns
@@ -12,5 +12,5 @@ returns c =
     let links = c.args.links.now in
     otherwise (λ note. IsLinkOf normal key clause note ⊎ IsToldBy normal key links clause note) (IsOwedBy normal key links clause) ((true ≡ true) × IsOk c.tell.result) (IsOk c.tell.result)
     c.args.out.now.items c.tell.new.out.items (λ note p. p) (λ h note p. p) (λ h. (refl, h))
-    (both (IsLinkOf normal key clause) (IsToldBy normal key links clause) (true ≡ true) (IsOk c.tell.result) c.args.out.now.items c.note_links.new.out.items c.tell.new.out.items
+    (both member_grows (IsLinkOf normal key clause) (IsToldBy normal key links clause) (true ≡ true) (IsOk c.tell.result) c.args.out.now.items c.note_links.new.out.items c.tell.new.out.items
     c.in_ok-note_links.ensures c.tell.ensures)

@@ -2,9 +2,9 @@ use Rattle.std.proofs.Common.{ℕ, List, subst}
 use Rattle.std.specs.Result.{IsOk}
 use Rattle.cd_base.specs.Lists.{Member}
 use Rattle.cd_clause.specs.declared.elem.Elem.{Elem}
-use Rattle.cd_context.specs.Noting.{Notes}
+use Rattle.cd_base.specs.Appends.{Appends}
+use Rattle.cd_base.proofs.Appending.{OfOne}
 use Rattle.cd_context.specs.Parts.{AreFrom}
-use Rattle.cd_context.proofs.Noting.{OfOne}
 use Rattle.cd_context.proofs.Owed.{sends_since, OwedByOne}
 use Rattle.cd_context.proofs.owing.owe_since.Goals as goal
 
@@ -20,4 +20,4 @@ returns c backs deads =
     let found = c.since.result.now in
     sends_since normal key c.args.store.now.0 c.args.store.now.1 backs deads links c.args.stored found (IsOk c.owe_all.result) c.args.out.now.items c.owe_all.new.out.items
     (subst (λ (l : List ℕ). AreFrom c.args.stored l found) c.live.ensures.value c.since.ensures)
-    (subst (λ (l : List (List Elem)). Notes (OfOne (OwedByOne normal key links l) found) (IsOk c.owe_all.result) c.args.out.now.items c.owe_all.new.out.items) c.clauses.ensures.value c.owe_all.ensures)
+    (subst (λ (l : List (List Elem)). Appends Member (OfOne (OwedByOne normal key links l) found) (IsOk c.owe_all.result) c.args.out.now.items c.owe_all.new.out.items) c.clauses.ensures.value c.owe_all.ensures)

@@ -1,4 +1,4 @@
-use Rattle.cd_rules.proofs.Appending.{otherwise}
+use Rattle.cd_base.proofs.Appending.{otherwise}
 use Rattle.cd_rules.proofs.back.back_by_fact.Goals as goal
 
 pub returns : goal.returns

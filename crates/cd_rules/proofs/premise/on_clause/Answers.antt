@@ -1,5 +1,5 @@
 use Rattle.std.proofs.Common.{◌+◌, ◌≤◌, length, refl, subst}
-use Rattle.cd_rules.proofs.Appending.{none, otherwise}
+use Rattle.cd_base.proofs.Appending.{none, otherwise}
 use Rattle.cd_rules.proofs.Ends.{not_ok, failed}
 use Rattle.cd_rules.proofs.Places.{skipped_here, tried_here, first_clause, clause_first, choices_below}
 use Rattle.cd_rules.proofs.premise.on_clause.Goals as goal

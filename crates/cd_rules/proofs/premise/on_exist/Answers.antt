@@ -1,12 +1,13 @@
 use Rattle.std.proofs.Common.{refl, inl, inr}
-use Rattle.cd_rules.proofs.Appending.{both}
+use Rattle.cd_base.proofs.Appending.{both}
+use Rattle.cd_rules.proofs.Among.{among_grows}
 use Rattle.cd_rules.proofs.Ends.{failed, done}
 use Rattle.cd_rules.proofs.premise.on_exist.Goals as goal
 
 pub returns-in_err-dead_from : goal.returns-in_err-dead_from
 returns-in_err-dead_from c = failed _ _ _ c.from_residual-in_err-dead_from.result _ _ c.from_residual-in_err-dead_from.ensures.0 (λ d p. elim p [ inl q ↦ inl q | inr q ↦ inr (inl q) ])
-    (both _ _ _ _ _ _ _ c.back_from.ensures c.dead_from.ensures)
+    (both among_grows _ _ _ _ _ _ _ c.back_from.ensures c.dead_from.ensures)
 
 pub returns : goal.returns
 returns c = done _ _ _ _ _ (λ h. (refl, (refl, h)))
-    (both _ _ _ _ _ _ _ c.in_ok-back_from.ensures (both _ _ _ _ _ _ _ c.in_ok-dead_from.ensures c.all_of_exist.ensures))
+    (both among_grows _ _ _ _ _ _ _ c.in_ok-back_from.ensures (both among_grows _ _ _ _ _ _ _ c.in_ok-dead_from.ensures c.all_of_exist.ensures))

@@ -1,5 +1,5 @@
 use Rattle.std.proofs.Common.{◌≡◌, ◌+◌, ℕ, None, List, min, sym, ap, subst, ◌∙◌}
-use Rattle.cd_context.specs.Facts.{last}
+use Rattle.cd_base.specs.Counts.{last}
 use Rattle.cd_context.specs.State.{State}
 use Rattle.cd_cell.specs.Cells.{state_at}
 use Rattle.cd_cell.specs.Telling.{IsNext, Tells, put}
