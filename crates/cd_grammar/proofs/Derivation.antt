@@ -4,14 +4,14 @@ use Rattle.std.specs.Prelude.{Option, Some, None, is_some}
 use Rattle.std.specs.Option.{option_map}
 use Rattle.cd_names.specs.Names.{number}
 use Rattle.cd_names.specs.Prefixes.{meaning}
-use Rattle.cd_grammar.specs.declared.item.Item.{Item}
-use Rattle.cd_grammar.specs.declared.item.Item.TheVariants.{Word, Short, Node, FullIri}
-use Rattle.cd_grammar.specs.declared.known.Known.{Known}
+use Rattle.cd_syntax.specs.declared.item.Item.{Item}
+use Rattle.cd_syntax.specs.declared.item.Item.TheVariants.{Word, Short, Node, FullIri}
+use Rattle.cd_syntax.specs.declared.known.Known.{Known}
 use Rattle.cd_grammar.specs.declared.symbol.Symbol.{Symbol}
 use Rattle.cd_grammar.specs.declared.symbol.Symbol.TheVariants.{Opening}
-use Rattle.cd_grammar.specs.declared.words.Key.{Key}
-use Rattle.cd_grammar.specs.Grammar.{with_prefix, with_class, with_role, top_role, bottom_role}
-use Rattle.cd_grammar.proofs.ItemGrammar.{Wanted, Exact, AnyIri, Subject, PrefixIri, ClassOf, RoleOf, Means, IsAnyIri, IsNode, Leads, opened, IsNoted}
+use Rattle.cd_syntax.specs.declared.words.Key.{Key}
+use Rattle.cd_syntax.specs.Grammar.{with_prefix, with_class, with_role, top_role, bottom_role}
+use Rattle.cd_syntax.proofs.ItemGrammar.{Wanted, Exact, AnyIri, Subject, PrefixIri, ClassOf, RoleOf, Means, IsAnyIri, IsNode, Leads, opened, IsNoted}
 use Rattle.cd_grammar.specs.Machine.{State, iri_of, by_iri, is_subject, noted}
 use Rattle.cd_grammar.proofs.Fills.{Wants, Fills}
 

@@ -6,11 +6,11 @@ use Rattle.std.specs.Str.{bytes_eq}
 use Rattle.std.proofs.lemmas.Bool.Decides.{Decides-and, Decides-not}
 use Rattle.std.proofs.lemmas.Slice.Eq.{bytes_eq-Decides}
 use Rattle.cd_names.specs.Prefixes.{meaning}
-use Rattle.cd_grammar.specs.declared.item.Item.{Item}
-use Rattle.cd_grammar.specs.declared.item.Item.TheVariants.{Short, Node, FullIri}
-use Rattle.cd_grammar.specs.declared.known.Known.{Known}
-use Rattle.cd_grammar.specs.Grammar.{top_role, bottom_role}
-use Rattle.cd_grammar.proofs.ItemGrammar.{Means, IsAnyIri, IsNode}
+use Rattle.cd_syntax.specs.declared.item.Item.{Item}
+use Rattle.cd_syntax.specs.declared.item.Item.TheVariants.{Short, Node, FullIri}
+use Rattle.cd_syntax.specs.declared.known.Known.{Known}
+use Rattle.cd_syntax.specs.Grammar.{top_role, bottom_role}
+use Rattle.cd_syntax.proofs.ItemGrammar.{Means, IsAnyIri, IsNode}
 use Rattle.cd_grammar.specs.Machine.{iri_of, is_empty, is_subject, is_role}
 
 -- a short name whose prefix has an IRI

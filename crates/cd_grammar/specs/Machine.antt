@@ -7,18 +7,18 @@ use Rattle.cd_meaning.specs.declared.expression.Expr.{Expr}
 use Rattle.cd_meaning.specs.declared.expression.Expr.TheVariants.{Name}
 use Rattle.cd_names.specs.Names.{number}
 use Rattle.cd_names.specs.Prefixes.{meaning}
-use Rattle.cd_grammar.specs.declared.item.Item.{Item}
-use Rattle.cd_grammar.specs.declared.item.Item.TheVariants.{Word, Short, Node, FullIri}
-use Rattle.cd_grammar.specs.declared.known.Known.{Known}
-use Rattle.cd_grammar.specs.declared.operands.Made.{Made}
+use Rattle.cd_syntax.specs.declared.item.Item.{Item}
+use Rattle.cd_syntax.specs.declared.item.Item.TheVariants.{Word, Short, Node, FullIri}
+use Rattle.cd_syntax.specs.declared.known.Known.{Known}
+use Rattle.cd_syntax.specs.declared.operands.Made.{Made}
 use Rattle.cd_grammar.specs.declared.symbol.Frame.{Frame}
 use Rattle.cd_grammar.specs.declared.symbol.Symbol.{Symbol}
 use Rattle.cd_grammar.specs.declared.symbol.Symbol.TheVariants.{Opening, Closing, Equals, End, Iri, Subject, Class, PrefixIri, Document, Binding, OntologyIri, VersionIri, Notes, Axioms, DeclarationIn, AssertionIn, AnnotationAxiomIn, NoteIn, Value, QuotedEnd, AxiomIn, Inside}
-use Rattle.cd_grammar.specs.declared.words.ExprForm.{ExprForm}
-use Rattle.cd_grammar.specs.declared.words.Form.{Form}
-use Rattle.cd_grammar.specs.declared.words.Key.{Key}
-use Rattle.cd_grammar.specs.Grammar.{begun, with_prefix, with_class, with_role, with_axiom, top_role, bottom_role}
-use Rattle.cd_grammar.specs.Operands.{wants_head, wants_part, has_class_head, made_of}
+use Rattle.cd_syntax.specs.declared.words.ExprForm.{ExprForm}
+use Rattle.cd_syntax.specs.declared.words.Form.{Form}
+use Rattle.cd_syntax.specs.declared.words.Key.{Key}
+use Rattle.cd_syntax.specs.Grammar.{begun, with_prefix, with_class, with_role, with_axiom, top_role, bottom_role}
+use Rattle.cd_syntax.specs.Operands.{wants_head, wants_part, has_class_head, made_of}
 
 -- what is known, and what is wanted
 abbrev pub State : Type 0
@@ -41,12 +41,6 @@ by_iri iri state = taken_if (is_some iri) state
 abbrev pub is_empty : List ℕ → Bool
 is_empty [] = true
 is_empty (b ∷ more) = false
-
--- an anonymous individual with a name
-abbrev pub is_node : Item → Bool
-is_node (Node []) = false
-is_node (Node (b ∷ more)) = true
-is_node other = false
 
 abbrev pub is_subject : Known → Item → Bool
 is_subject known (Node l) = not (is_empty l)

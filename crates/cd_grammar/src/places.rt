@@ -1,22 +1,21 @@
 //! What may stand at each place of a document, one item after another.
 ghost use Rattle.std.specs.Prelude.{◌≡◌, ◌∷◌, [], ◌<◌, ◌-◌, ◌^◌, true, length, is_some, IfOk};
 ghost use Rattle.std.specs.Str.{bytes_eq};
-ghost use Rattle.cd_grammar.specs.Grammar.{nesting, top_role, bottom_role};
+ghost use Rattle.cd_syntax.specs.Grammar.{nesting, top_role, bottom_role};
 ghost use Rattle.cd_grammar.specs.Machine.{IsTaken, IsClassNamed, IsRoleNamed, iri_of, is_subject, is_role, is_mark, is_plain, noted, notes_taken, axioms_taken, ontology_iri_taken, given, closed, deeper, head_taken, operand_taken, inside_taken, wants_head_next, wants_part_next, advance};
-ghost use Rattle.cd_grammar.specs.Operands.{made_of};
-ghost use Rattle.cd_grammar.specs.declared.item.Item.{Item};
+ghost use Rattle.cd_syntax.specs.Operands.{made_of};
+ghost use Rattle.cd_syntax.specs.declared.item.Item.{Item};
 ghost use Rattle.cd_grammar.specs.declared.symbol.Symbol.{Symbol};
-ghost use Rattle.cd_grammar.specs.declared.words.Form.{Form};
-ghost use Rattle.cd_grammar.specs.declared.words.Key.{Key};
+ghost use Rattle.cd_syntax.specs.declared.words.Form.{Form};
+ghost use Rattle.cd_syntax.specs.declared.words.Key.{Key};
 
-use crate::item::Item;
-use crate::known::Known;
-use crate::operands::{Made, has_class_head, make, wants_head, wants_part};
 use crate::symbol::{Frame, Stack, Symbol};
-use crate::words::{ExprForm, Form, Key};
 use cd_base::{Memory, Seq};
 use cd_meaning::Expr;
 use cd_names::{DeclareFault, ExpandFault};
+use cd_syntax::{
+    ExprForm, Form, Item, Key, Known, Made, has_class_head, make, wants_head, wants_part,
+};
 use std::alloc::Global;
 
 /// At most so many annotations, and so many constructors, stand inside each other.
