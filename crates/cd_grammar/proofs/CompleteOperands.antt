@@ -18,8 +18,9 @@ use Rattle.cd_syntax.proofs.ItemGrammar.{Wanted, Exact, ClassOf, RoleOf, ExprOf,
 use Rattle.cd_grammar.specs.Machine.{State, taken_if, bare, with_head, with_part, wants_head_next, wants_part_next, given, closed, deeper, head_taken, part_taken, operand_taken, inside_taken}
 use Rattle.cd_syntax.specs.Operands.{has_class_head, wants_head, made_of}
 use Rattle.cd_syntax.proofs.Counts.{IsCount, counts, wants_head-next, wants_head-none, wants_part-next}
-use Rattle.cd_grammar.proofs.Derivation.{iri_of-means, exact_first, class_first, role_first, lined, Goes, goes_on, by_word}
-use Rattle.cd_grammar.proofs.Items.{is_role-Decides}
+use Rattle.cd_syntax.proofs.Derivation.{exact_first, class_first, role_first, lined}
+use Rattle.cd_syntax.proofs.Items.{iri_of-means, is_role-Decides}
+use Rattle.cd_grammar.proofs.Derivation.{Goes, goes_on, by_word}
 use Rattle.cd_grammar.proofs.Fills.{last_of, handed_by, Completes, Fills}
 
 -- ---- the end of operands

@@ -23,7 +23,8 @@ use Rattle.cd_syntax.specs.declared.known.Known.{Known}
 use Rattle.cd_grammar.specs.declared.symbol.Symbol.{Symbol}
 use Rattle.cd_syntax.specs.Grammar.{begun, nesting}
 use Rattle.cd_syntax.specs.Items.{item_of, item_at, placed_items}
-use Rattle.cd_grammar.specs.Machine.{iri_of, after, start}
+use Rattle.cd_syntax.specs.Named.{iri_of}
+use Rattle.cd_grammar.specs.Machine.{after, start}
 use Rattle.cd_grammar.proofs.Kept.{kept}
 use Rattle.cd_grammar.proofs.Lexed.{lexed_cut}
 use Rattle.cd_grammar.proofs.Moves.{Moves}

@@ -14,7 +14,6 @@ pub mod Finishing
 pub mod First
 pub mod Inputs
 pub mod Iris
-pub mod Items
 pub mod Kept
 pub mod Lexed
 pub mod Moves

@@ -1,5 +1,5 @@
 -- A text is one document at most, and has one first fault at most.
-use Rattle.std.proofs.Common.{◌≡◌, ℕ, List, [], ◌∷◌, ◌++◌, map, refl, sym, ap, subst, ◌∙◌, inl, inr, append-nil}
+use Rattle.std.proofs.Common.{◌≡◌, ℕ, List, [], ◌∷◌, ◌++◌, map, sym, ap, subst, ◌∙◌, inl, inr, append-nil}
 use Rattle.std.specs.Prelude.{Option, Some, None}
 use Rattle.cd_meaning.specs.declared.document.Document.{Document}
 use Rattle.cd_lex.specs.declared.token.Kind.{Kind}

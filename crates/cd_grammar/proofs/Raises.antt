@@ -18,7 +18,8 @@ use Rattle.cd_syntax.specs.declared.words.Key.{Key}
 use Rattle.cd_grammar.specs.Causes.{is_zero, is_over}
 use Rattle.cd_syntax.specs.Grammar.{begun, with_prefix, with_role}
 use Rattle.cd_syntax.specs.Operands.{has_class_head, made_of}
-use Rattle.cd_grammar.specs.Machine.{State, iri_of, taken_if, by_iri, is_subject, class_taken, bound, noted, bare, with_head, wants_head_next, wants_part_next, is_role, given, closed, deeper, head_taken, part_taken, operand_taken, inside_taken, axioms_taken, notes_taken, ontology_iri_taken, advance, step, after, start}
+use Rattle.cd_syntax.specs.Named.{iri_of, is_subject, is_role}
+use Rattle.cd_grammar.specs.Machine.{State, taken_if, by_iri, class_taken, bound, noted, bare, with_head, wants_head_next, wants_part_next, given, closed, deeper, head_taken, part_taken, operand_taken, inside_taken, axioms_taken, notes_taken, ontology_iri_taken, advance, step, after, start}
 use Rattle.cd_grammar.proofs.Runs.{began}
 
 -- one more may stand inside each other in the operands

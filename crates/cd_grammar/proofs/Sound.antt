@@ -15,9 +15,10 @@ use Rattle.cd_syntax.specs.declared.words.Form.{Form}
 use Rattle.cd_syntax.specs.declared.words.Key.{Key}
 use Rattle.cd_syntax.specs.Grammar.{with_class, with_prefix}
 use Rattle.cd_syntax.proofs.ItemGrammar.{Wanted, Exact, AnyIri, ClassOf, Text, IsAnyIri, IsNoted, Line, Leads, opened}
-use Rattle.cd_grammar.specs.Machine.{State, iri_of, is_subject, class_taken, bound, noted, bare, axioms_taken, notes_taken, ontology_iri_taken, inside_taken, advance}
+use Rattle.cd_syntax.specs.Named.{iri_of, is_subject}
+use Rattle.cd_grammar.specs.Machine.{State, class_taken, bound, noted, bare, axioms_taken, notes_taken, ontology_iri_taken, inside_taken, advance}
 use Rattle.cd_grammar.proofs.Fills.{Wants, Fills}
-use Rattle.cd_grammar.proofs.Items.{means, subject}
+use Rattle.cd_syntax.proofs.Items.{means, subject}
 use Rattle.cd_grammar.proofs.SoundForms.{IsSoundStep, InTurn, Follows, pushed_sound, if_sound, iri_sound}
 use Rattle.cd_grammar.proofs.SoundOperands.{inside_sound, axiom_sound}
 

@@ -20,10 +20,11 @@ use Rattle.cd_syntax.specs.declared.words.Form.{Form}
 use Rattle.cd_syntax.specs.declared.words.Key.{Key}
 use Rattle.cd_syntax.specs.Grammar.{with_class, with_role}
 use Rattle.cd_syntax.proofs.ItemGrammar.{Wanted, Exact, ClassOf, RoleOf, ClosingOf, ExprOf, Means, Leads, head_of, operands, opened, IsBuilt, Line, IsMade}
-use Rattle.cd_grammar.specs.Machine.{State, iri_of, bare, with_head, with_part, wants_head_next, wants_part_next, is_role, given, closed, deeper, head_taken, part_taken, operand_taken, inside_taken}
+use Rattle.cd_syntax.specs.Named.{iri_of, is_role}
+use Rattle.cd_grammar.specs.Machine.{State, bare, with_head, with_part, wants_head_next, wants_part_next, given, closed, deeper, head_taken, part_taken, operand_taken, inside_taken}
 use Rattle.cd_syntax.specs.Operands.{axiom_of, expression_of, made_of, has_class_head}
 use Rattle.cd_grammar.proofs.Fills.{last_of, handed_by, Completes, Fills}
-use Rattle.cd_grammar.proofs.Items.{means, is_role-Decides}
+use Rattle.cd_syntax.proofs.Items.{means, is_role-Decides}
 use Rattle.cd_grammar.proofs.SoundForms.{IsSoundStep, if_sound}
 
 -- ---- what may follow behind one operand more

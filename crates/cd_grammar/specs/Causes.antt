@@ -17,7 +17,8 @@ use Rattle.cd_syntax.specs.Grammar.{top_role, bottom_role, nesting}
 use Rattle.cd_syntax.specs.Items.{PlacedItem}
 use Rattle.cd_syntax.specs.Operands.{has_class_head}
 use Rattle.cd_syntax.specs.Refusal.{refusal_at}
-use Rattle.cd_grammar.specs.Machine.{State, iri_of, bare, wants_head_next, wants_part_next, step}
+use Rattle.cd_syntax.specs.Named.{iri_of}
+use Rattle.cd_grammar.specs.Machine.{State, bare, wants_head_next, wants_part_next, step}
 
 -- behind these operands a role may stand
 abbrev pub wants_role_next : Frame → Bool

@@ -1,7 +1,8 @@
 //! Why an item can't stand at its place.
 ghost use Rattle.std.specs.Prelude.{◌≡◌, ◌∷◌, [], List, IfOk};
 ghost use Rattle.cd_grammar.specs.Causes.{refused, refused_role, is_unknown, is_prefix_iri, is_over, wants_role, wants_role_next, first_of_causes};
-ghost use Rattle.cd_grammar.specs.Machine.{iri_of, bare};
+ghost use Rattle.cd_syntax.specs.Named.{iri_of};
+ghost use Rattle.cd_grammar.specs.Machine.{bare};
 ghost use Rattle.cd_syntax.specs.Grammar.{nesting};
 ghost use Rattle.cd_syntax.specs.declared.words.Form.{Form};
 

@@ -4,6 +4,7 @@ pub mod Fault
 pub mod Grammar
 pub mod Items
 pub mod Laws
+pub mod Named
 pub mod Operands
 pub mod Refusal
 pub mod Words

@@ -1,5 +1,5 @@
--- What the machine finds of an item that stands for itself, in the terms of the grammar.
-use Rattle.std.proofs.Common.{◌≡◌, ◌≢◌, ◌⊎◌, ℕ, true, List, [], ◌∷◌, ◌++◌, not, refl, inl, inr}
+-- What an item stands for, in the terms of the grammar over items.
+use Rattle.std.proofs.Common.{◌≡◌, ◌≢◌, ◌⊎◌, ℕ, true, List, [], ◌∷◌, ◌++◌, not, refl, sym, ap, ◌∙◌, inl, inr}
 use Rattle.std.specs.Prelude.{Option, Some, None, Decides, is_some}
 use Rattle.std.specs.Option.{option_map}
 use Rattle.std.specs.Str.{bytes_eq}
@@ -11,7 +11,7 @@ use Rattle.cd_syntax.specs.declared.item.Item.TheVariants.{Short, Node, FullIri}
 use Rattle.cd_syntax.specs.declared.known.Known.{Known}
 use Rattle.cd_syntax.specs.Grammar.{top_role, bottom_role}
 use Rattle.cd_syntax.proofs.ItemGrammar.{Means, IsAnyIri, IsNode}
-use Rattle.cd_grammar.specs.Machine.{iri_of, is_empty, is_subject, is_role}
+use Rattle.cd_syntax.specs.Named.{iri_of, is_empty, is_subject, is_role}
 
 -- a short name whose prefix has an IRI
 short_means : (known : Known) (p l i : List ℕ) (base : Option (List ℕ)) → meaning known.prefixes p ≡ base → option_map (λ b. b ++ l) base ≡ Some i
@@ -49,3 +49,27 @@ pub is_role-Decides : (i : List ℕ) → Decides (is_role i) ((i ≢ top_role) �
 is_role-Decides i =
     Decides-and (not (bytes_eq i top_role)) (not (bytes_eq i bottom_role))
     (Decides-not (bytes_eq i top_role) (bytes_eq-Decides i top_role)) (Decides-not (bytes_eq i bottom_role) (bytes_eq-Decides i bottom_role))
+
+-- ---- and back
+
+-- what the item stands for is what is found
+pub iri_of-means : (known : Known) (item : Item) (i : List ℕ) → Means known item i → iri_of known item ≡ Some i
+iri_of-means known (FullIri j) i m = cc
+iri_of-means known (Short p l) i (base, e, is) = ap (option_map (λ (b : List ℕ). b ++ l)) e ∙ ap (λ (x : List ℕ). Some x) (sym is)
+iri_of-means known item i m = absurd m
+
+-- an anonymous individual is a subject
+is_subject-node : (known : Known) (label : List ℕ) → label ≢ [] → is_subject known (Node label) ≡ true
+is_subject-node known [] named = absurd (named refl)
+is_subject-node known (b ∷ more) named = refl
+
+-- and so is an item that stands for an IRI
+is_subject-iri : (known : Known) (item : Item) → IsAnyIri known item → is_subject known item ≡ true
+is_subject-iri known (FullIri j) m = refl
+is_subject-iri known (Short p l) (i, m) = ap is_some (iri_of-means known (Short p l) i m)
+is_subject-iri known item (i, m) = absurd m
+
+-- what may stand where a subject is wanted is one
+pub is_subject-of : (known : Known) (item : Item) → IsAnyIri known item ⊎ IsNode item → is_subject known item ≡ true
+is_subject-of known item (inl m) = is_subject-iri known item m
+is_subject-of known item (inr (label, e, named)) = ap (is_subject known) e ∙ is_subject-node known label named
