@@ -4,20 +4,20 @@ use Rattle.std.specs.Prelude.{Some}
 use Rattle.std.specs.Option.{option_map}
 use Rattle.cd_meaning.specs.declared.expression.Axiom.{Axiom}
 use Rattle.cd_meaning.specs.declared.expression.Expr.{Expr}
-use Rattle.cd_grammar.specs.declared.item.Item.{Item}
-use Rattle.cd_grammar.specs.declared.item.Item.TheVariants.{FullIri}
-use Rattle.cd_grammar.specs.declared.known.Known.{Known}
-use Rattle.cd_grammar.specs.declared.operands.Made.{Made}
+use Rattle.cd_syntax.specs.declared.item.Item.{Item}
+use Rattle.cd_syntax.specs.declared.item.Item.TheVariants.{FullIri}
+use Rattle.cd_syntax.specs.declared.known.Known.{Known}
+use Rattle.cd_syntax.specs.declared.operands.Made.{Made}
 use Rattle.cd_grammar.specs.declared.symbol.Frame.{Frame}
 use Rattle.cd_grammar.specs.declared.symbol.Symbol.{Symbol}
 use Rattle.cd_grammar.specs.declared.symbol.Symbol.TheVariants.{Inside}
-use Rattle.cd_grammar.specs.declared.words.AxiomForm.{AxiomForm}
-use Rattle.cd_grammar.specs.declared.words.Form.{Form}
+use Rattle.cd_syntax.specs.declared.words.AxiomForm.{AxiomForm}
+use Rattle.cd_syntax.specs.declared.words.Form.{Form}
 use Rattle.cd_grammar.specs.Causes.{wants_role_next, wants_role, is_prefix_iri}
-use Rattle.cd_grammar.proofs.ItemGrammar.{Wanted, PrefixIri, RoleOf, ClosingOf, AxiomIn, ExprOf, Line, Leads, IsNoted, IsBuilt, head_of, operands}
-use Rattle.cd_grammar.specs.Operands.{heads_of, has_more_heads, wants_head, has_class_head, axiom_of, made_of}
+use Rattle.cd_syntax.proofs.ItemGrammar.{Wanted, PrefixIri, RoleOf, ClosingOf, AxiomIn, ExprOf, Line, Leads, IsNoted, IsBuilt, head_of, operands}
+use Rattle.cd_syntax.specs.Operands.{heads_of, has_more_heads, wants_head, has_class_head, axiom_of, made_of}
 use Rattle.cd_grammar.specs.Machine.{bare}
-use Rattle.cd_grammar.proofs.Counts.{IsCount, counts}
+use Rattle.cd_syntax.proofs.Counts.{IsCount, counts}
 use Rattle.cd_grammar.proofs.Fills.{Completes, last_of, Wants, Fills}
 use Rattle.cd_grammar.proofs.Pending.{headed}
 

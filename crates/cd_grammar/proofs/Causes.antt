@@ -4,22 +4,22 @@ use Rattle.std.specs.Prelude.{Option, Some, None, is_some}
 use Rattle.std.specs.Str.{bytes_eq}
 use Rattle.std.proofs.lemmas.Slice.Eq.{bytes_eq-Decides}
 use Rattle.cd_names.specs.Prefixes.{meaning}
-use Rattle.cd_grammar.specs.declared.item.Item.{Item}
-use Rattle.cd_grammar.specs.declared.item.Item.TheVariants.{Word, Short, FullIri}
-use Rattle.cd_grammar.specs.declared.known.Known.{Known}
+use Rattle.cd_syntax.specs.declared.item.Item.{Item}
+use Rattle.cd_syntax.specs.declared.item.Item.TheVariants.{Word, Short, FullIri}
+use Rattle.cd_syntax.specs.declared.known.Known.{Known}
 use Rattle.cd_grammar.specs.declared.symbol.Symbol.{Symbol}
 use Rattle.cd_grammar.specs.declared.symbol.Symbol.TheVariants.{PrefixIri}
-use Rattle.cd_grammar.specs.declared.words.Key.{Key}
+use Rattle.cd_syntax.specs.declared.words.Key.{Key}
 use Rattle.cd_grammar.specs.Causes.{number_of, refused_role, refused, is_unknown, first_of_causes, cause_of}
-use Rattle.cd_grammar.proofs.ItemFault.{IsBehind, IsNoRole, IsRefused, IsUnknown, IsClash, IsDeep, IsCause}
-use Rattle.cd_grammar.specs.Grammar.{nesting, top_role, bottom_role, with_prefix}
-use Rattle.cd_grammar.proofs.ItemGrammar.{Wanted, RoleOf, Means, Leads}
-use Rattle.cd_grammar.specs.Machine.{State, iri_of, taken_if, bound, step, after, start}
+use Rattle.cd_syntax.proofs.ItemFault.{IsBehind, IsNoRole, IsRefused, IsUnknown, IsClash, IsDeep, IsCause}
+use Rattle.cd_syntax.specs.Grammar.{nesting, top_role, bottom_role, with_prefix}
+use Rattle.cd_syntax.proofs.ItemGrammar.{Wanted, RoleOf, Means, Leads}
+use Rattle.cd_syntax.specs.Named.{iri_of}
+use Rattle.cd_grammar.specs.Machine.{State, taken_if, bound, step, after, start}
 use Rattle.cd_grammar.proofs.Begins.{begins_with_role, begins_with_prefix, role_at, prefix_at, stack_asks, known_stays, leads_begins}
 use Rattle.cd_grammar.proofs.Closes.{IsClosable, closes}
 use Rattle.cd_grammar.proofs.Fills.{Fills}
-use Rattle.cd_grammar.proofs.Derivation.{iri_of-means}
-use Rattle.cd_grammar.proofs.Items.{means}
+use Rattle.cd_syntax.proofs.Items.{iri_of-means, means}
 use Rattle.cd_grammar.proofs.Raises.{raised, over_at, start_raises, stuck_at}
 use Rattle.cd_grammar.proofs.Roles.{wants_role-stack}
 use Rattle.cd_grammar.proofs.Runs.{after-append, closable_after, is_front, front_reaches, is_behind, behind_reaches}

@@ -8,19 +8,20 @@ use Rattle.cd_meaning.specs.declared.expression.Axiom.{Axiom}
 use Rattle.cd_meaning.specs.declared.expression.Expr.TheVariants.{Name}
 use Rattle.cd_names.specs.Names.{number}
 use Rattle.cd_names.specs.Prefixes.{meaning}
-use Rattle.cd_grammar.specs.declared.item.Item.{Item}
-use Rattle.cd_grammar.specs.declared.item.Item.TheVariants.{Word, Short, FullIri}
-use Rattle.cd_grammar.specs.declared.known.Known.{Known}
-use Rattle.cd_grammar.specs.declared.operands.Made.{Made}
+use Rattle.cd_syntax.specs.declared.item.Item.{Item}
+use Rattle.cd_syntax.specs.declared.item.Item.TheVariants.{Word, Short, FullIri}
+use Rattle.cd_syntax.specs.declared.known.Known.{Known}
+use Rattle.cd_syntax.specs.declared.operands.Made.{Made}
 use Rattle.cd_grammar.specs.declared.symbol.Frame.{Frame}
 use Rattle.cd_grammar.specs.declared.symbol.Symbol.{Symbol}
 use Rattle.cd_grammar.specs.declared.symbol.Symbol.TheVariants.{Opening, Closing, Equals, End, Iri, Class, Document, Binding, VersionIri, QuotedEnd, Inside}
-use Rattle.cd_grammar.specs.declared.words.ExprForm.{ExprForm}
-use Rattle.cd_grammar.specs.declared.words.Form.{Form}
-use Rattle.cd_grammar.specs.declared.words.Key.{Key}
-use Rattle.cd_grammar.specs.Grammar.{with_role, with_prefix}
-use Rattle.cd_grammar.specs.Operands.{has_class_head, axiom_of, expression_of, made_of}
-use Rattle.cd_grammar.specs.Machine.{State, iri_of, taken_if, is_subject, class_taken, bound, noted, bare, with_head, wants_head_next, wants_part_next, is_role, given, closed, deeper, head_taken, part_taken, operand_taken, inside_taken, axioms_taken, notes_taken, ontology_iri_taken, advance}
+use Rattle.cd_syntax.specs.declared.words.ExprForm.{ExprForm}
+use Rattle.cd_syntax.specs.declared.words.Form.{Form}
+use Rattle.cd_syntax.specs.declared.words.Key.{Key}
+use Rattle.cd_syntax.specs.Grammar.{with_role, with_prefix}
+use Rattle.cd_syntax.specs.Operands.{has_class_head, axiom_of, expression_of, made_of}
+use Rattle.cd_syntax.specs.Named.{iri_of, is_subject, is_role}
+use Rattle.cd_grammar.specs.Machine.{State, taken_if, class_taken, bound, noted, bare, with_head, wants_head_next, wants_part_next, given, closed, deeper, head_taken, part_taken, operand_taken, inside_taken, axioms_taken, notes_taken, ontology_iri_taken, advance}
 use Rattle.cd_grammar.proofs.Pending.{IsPending, pending_bare, handed_on}
 use Rattle.cd_grammar.proofs.Closes.{IsClosable}
 

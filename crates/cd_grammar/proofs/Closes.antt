@@ -4,15 +4,15 @@ use Rattle.std.specs.Prelude.{Option, Some, None}
 use Rattle.cd_meaning.specs.declared.expression.Expr.{Expr}
 use Rattle.cd_names.specs.Names.{number}
 use Rattle.cd_names.specs.Prefixes.{meaning}
-use Rattle.cd_grammar.specs.declared.item.Item.{Item}
-use Rattle.cd_grammar.specs.declared.item.Item.TheVariants.{Word, Short, FullIri}
-use Rattle.cd_grammar.specs.declared.known.Known.{Known}
+use Rattle.cd_syntax.specs.declared.item.Item.{Item}
+use Rattle.cd_syntax.specs.declared.item.Item.TheVariants.{Word, Short, FullIri}
+use Rattle.cd_syntax.specs.declared.known.Known.{Known}
 use Rattle.cd_grammar.specs.declared.symbol.Symbol.{Symbol}
 use Rattle.cd_grammar.specs.declared.symbol.Symbol.TheVariants.{Opening, Closing, Equals, End, Iri, Class, Document, Binding, VersionIri, QuotedEnd, Inside}
-use Rattle.cd_grammar.specs.declared.words.Form.{Form}
-use Rattle.cd_grammar.specs.declared.words.Key.{Key}
-use Rattle.cd_grammar.specs.Grammar.{with_class, with_prefix}
-use Rattle.cd_grammar.proofs.ItemGrammar.{Wanted, Exact, AnyIri, ClassOf, Text, Stands, Leads, opened}
+use Rattle.cd_syntax.specs.declared.words.Form.{Form}
+use Rattle.cd_syntax.specs.declared.words.Key.{Key}
+use Rattle.cd_syntax.specs.Grammar.{with_class, with_prefix}
+use Rattle.cd_syntax.proofs.ItemGrammar.{Wanted, Exact, AnyIri, ClassOf, Text, Stands, Leads, opened}
 use Rattle.cd_grammar.specs.Machine.{bare}
 use Rattle.cd_grammar.proofs.SoundOperands.{axiom_line}
 use Rattle.cd_grammar.proofs.Fills.{Wants, Fills}

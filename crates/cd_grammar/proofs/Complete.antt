@@ -6,20 +6,23 @@ use Rattle.std.proofs.lemmas.Slice.Eq.{bytes_eq-Decides}
 use Rattle.cd_meaning.specs.declared.expression.Axiom.{Axiom}
 use Rattle.cd_meaning.specs.declared.expression.Expr.{Expr}
 use Rattle.cd_names.specs.Prefixes.{meaning}
-use Rattle.cd_grammar.specs.declared.item.Item.{Item}
-use Rattle.cd_grammar.specs.declared.item.Item.TheVariants.{Word, Short, FullIri}
-use Rattle.cd_grammar.specs.declared.known.Known.{Known}
-use Rattle.cd_grammar.specs.declared.operands.Made.{Made}
+use Rattle.cd_syntax.specs.declared.item.Item.{Item}
+use Rattle.cd_syntax.specs.declared.item.Item.TheVariants.{Word, Short, FullIri}
+use Rattle.cd_syntax.specs.declared.known.Known.{Known}
+use Rattle.cd_syntax.specs.declared.operands.Made.{Made}
 use Rattle.cd_grammar.specs.declared.symbol.Symbol.{Symbol}
 use Rattle.cd_grammar.specs.declared.symbol.Symbol.TheVariants.{Opening, Closing, Equals, End, Iri, Class, Document, Binding, VersionIri, QuotedEnd, Inside}
-use Rattle.cd_grammar.specs.declared.words.AxiomForm.{AxiomForm}
-use Rattle.cd_grammar.specs.declared.words.Form.{Form}
-use Rattle.cd_grammar.specs.declared.words.Key.{Key}
-use Rattle.cd_grammar.specs.Grammar.{with_prefix}
-use Rattle.cd_grammar.proofs.ItemGrammar.{Wanted, Exact, ClosingOf, Text, IsAnyIri, operands, Leads, IsMade}
-use Rattle.cd_grammar.specs.Machine.{State, iri_of, taken_if, by_iri, is_subject, class_taken, bound, bare, inside_taken, axioms_taken, notes_taken, ontology_iri_taken, advance}
+use Rattle.cd_syntax.specs.declared.words.AxiomForm.{AxiomForm}
+use Rattle.cd_syntax.specs.declared.words.Form.{Form}
+use Rattle.cd_syntax.specs.declared.words.Key.{Key}
+use Rattle.cd_syntax.specs.Grammar.{with_prefix}
+use Rattle.cd_syntax.proofs.ItemGrammar.{Wanted, Exact, ClosingOf, Text, IsAnyIri, operands, Leads, IsMade}
+use Rattle.cd_syntax.specs.Named.{iri_of, is_subject}
+use Rattle.cd_grammar.specs.Machine.{State, taken_if, by_iri, class_taken, bound, bare, inside_taken, axioms_taken, notes_taken, ontology_iri_taken, advance}
 use Rattle.cd_grammar.proofs.CompleteOperands.{inside_complete}
-use Rattle.cd_grammar.proofs.Derivation.{iri_of-means, by_iri-means, is_subject-of, iri_first, subject_first, class_first, prefix_first, lined, Goes, goes_on, by_exact, by_word, by_note}
+use Rattle.cd_syntax.proofs.Derivation.{iri_first, subject_first, class_first, prefix_first, lined}
+use Rattle.cd_syntax.proofs.Items.{iri_of-means, is_subject-of}
+use Rattle.cd_grammar.proofs.Derivation.{by_iri-means, Goes, goes_on, by_exact, by_word, by_note}
 use Rattle.cd_grammar.proofs.Fills.{Completes, Wants, Fills}
 
 module _ (most : ℕ) (items : List Item) (known' : Known) (wanted' : List Wanted) where

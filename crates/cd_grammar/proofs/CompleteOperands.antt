@@ -5,21 +5,22 @@ use Rattle.std.specs.Option.{option_map}
 use Rattle.cd_meaning.specs.declared.expression.Expr.{Expr}
 use Rattle.cd_meaning.specs.declared.expression.Expr.TheVariants.{Name}
 use Rattle.cd_names.specs.Names.{number}
-use Rattle.cd_grammar.specs.declared.item.Item.{Item}
-use Rattle.cd_grammar.specs.declared.item.Item.TheVariants.{Short, FullIri}
-use Rattle.cd_grammar.specs.declared.known.Known.{Known}
-use Rattle.cd_grammar.specs.declared.operands.Made.{Made}
+use Rattle.cd_syntax.specs.declared.item.Item.{Item}
+use Rattle.cd_syntax.specs.declared.item.Item.TheVariants.{Short, FullIri}
+use Rattle.cd_syntax.specs.declared.known.Known.{Known}
+use Rattle.cd_syntax.specs.declared.operands.Made.{Made}
 use Rattle.cd_grammar.specs.declared.symbol.Frame.{Frame}
 use Rattle.cd_grammar.specs.declared.symbol.Symbol.{Symbol}
 use Rattle.cd_grammar.specs.declared.symbol.Symbol.TheVariants.{Inside}
-use Rattle.cd_grammar.specs.declared.words.Form.{Form}
-use Rattle.cd_grammar.specs.Grammar.{with_role}
-use Rattle.cd_grammar.proofs.ItemGrammar.{Wanted, Exact, ClassOf, RoleOf, ExprOf, Means, head_of, operands, IsBuilt, Leads}
+use Rattle.cd_syntax.specs.declared.words.Form.{Form}
+use Rattle.cd_syntax.specs.Grammar.{with_role}
+use Rattle.cd_syntax.proofs.ItemGrammar.{Wanted, Exact, ClassOf, RoleOf, ExprOf, Means, head_of, operands, IsBuilt, Leads}
 use Rattle.cd_grammar.specs.Machine.{State, taken_if, bare, with_head, with_part, wants_head_next, wants_part_next, given, closed, deeper, head_taken, part_taken, operand_taken, inside_taken}
-use Rattle.cd_grammar.specs.Operands.{has_class_head, wants_head, made_of}
-use Rattle.cd_grammar.proofs.Counts.{IsCount, counts, wants_head-next, wants_head-none, wants_part-next}
-use Rattle.cd_grammar.proofs.Derivation.{iri_of-means, exact_first, class_first, role_first, lined, Goes, goes_on, by_word}
-use Rattle.cd_grammar.proofs.Items.{is_role-Decides}
+use Rattle.cd_syntax.specs.Operands.{has_class_head, wants_head, made_of}
+use Rattle.cd_syntax.proofs.Counts.{IsCount, counts, wants_head-next, wants_head-none, wants_part-next}
+use Rattle.cd_syntax.proofs.Derivation.{exact_first, class_first, role_first, lined}
+use Rattle.cd_syntax.proofs.Items.{iri_of-means, is_role-Decides}
+use Rattle.cd_grammar.proofs.Derivation.{Goes, goes_on, by_word}
 use Rattle.cd_grammar.proofs.Fills.{last_of, handed_by, Completes, Fills}
 
 -- ---- the end of operands

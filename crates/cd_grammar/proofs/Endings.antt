@@ -2,11 +2,11 @@
 use Rattle.std.proofs.Common.{◌≡◌, ℕ, List, [], ◌∷◌, refl, ap}
 use Rattle.std.specs.Prelude.{Option, Some, None}
 use Rattle.std.proofs.lemmas.Option.{some_pair_parts}
-use Rattle.cd_grammar.specs.declared.item.Item.{Item}
-use Rattle.cd_grammar.specs.declared.known.Known.{Known}
+use Rattle.cd_syntax.specs.declared.item.Item.{Item}
+use Rattle.cd_syntax.specs.declared.known.Known.{Known}
 use Rattle.cd_grammar.specs.declared.symbol.Symbol.{Symbol}
 use Rattle.cd_grammar.specs.declared.symbol.Symbol.TheVariants.{Opening, End}
-use Rattle.cd_grammar.specs.Grammar.{nesting}
+use Rattle.cd_syntax.specs.Grammar.{nesting}
 use Rattle.cd_grammar.specs.Machine.{State, step, advance}
 
 -- ---- a bad byte

@@ -2,11 +2,11 @@
 use Rattle.std.proofs.Common.{◌≡◌, ℕ, Bool, true, false, ◌||◌, not, List, [], ◌∷◌, ◌++◌, refl, sym, subst, ◌∙◌}
 use Rattle.std.specs.Prelude.{Option, Some, None}
 use Rattle.std.proofs.lemmas.Bool.{and_parts, not-true, both_ways}
-use Rattle.cd_grammar.specs.declared.item.Item.{Item}
-use Rattle.cd_grammar.specs.declared.known.Known.{Known}
+use Rattle.cd_syntax.specs.declared.item.Item.{Item}
+use Rattle.cd_syntax.specs.declared.known.Known.{Known}
 use Rattle.cd_grammar.specs.declared.symbol.Symbol.{Symbol}
 use Rattle.cd_grammar.specs.declared.symbol.Symbol.TheVariants.{End}
-use Rattle.cd_grammar.specs.Grammar.{nesting}
+use Rattle.cd_syntax.specs.Grammar.{nesting}
 use Rattle.cd_grammar.specs.Machine.{State, advance, step, after, start}
 use Rattle.cd_grammar.proofs.Kept.{kept, all_fit}
 use Rattle.cd_grammar.proofs.Moves.{carries_end, ends_by, replaced_ends, Moves}

@@ -10,21 +10,21 @@ use Rattle.cd_lex.specs.Lexing.{IsLexing}
 use Rattle.cd_lex.specs.Machine.{State}
 use Rattle.cd_lex.specs.Tokens.{Piece, Blank, Comment, Lexeme, spelled, spelled_kind, IsCut, placed, Ending, AtEnd, AtBad, HasItems}
 use Rattle.cd_lex.proofs.CutLaws.{begins_shorter}
-use Rattle.cd_grammar.specs.declared.item.Item.{Item}
-use Rattle.cd_grammar.specs.declared.known.Known.{Known}
-use Rattle.cd_grammar.specs.declared.operands.Made.{Made}
+use Rattle.cd_syntax.specs.declared.item.Item.{Item}
+use Rattle.cd_syntax.specs.declared.known.Known.{Known}
+use Rattle.cd_syntax.specs.declared.operands.Made.{Made}
 use Rattle.cd_grammar.specs.declared.symbol.Frame.{Frame}
 use Rattle.cd_grammar.specs.declared.symbol.Symbol.{Symbol}
 use Rattle.cd_grammar.specs.declared.symbol.Symbol.TheVariants.{Opening, Class, PrefixIri, Document, Inside}
-use Rattle.cd_grammar.specs.declared.words.Form.{Form}
-use Rattle.cd_grammar.specs.Grammar.{begun, nesting}
+use Rattle.cd_syntax.specs.declared.words.Form.{Form}
+use Rattle.cd_syntax.specs.Grammar.{begun, nesting}
 use Rattle.cd_grammar.specs.Machine.{bare, with_head, with_part, after, start}
-use Rattle.cd_grammar.proofs.Added.{length_added}
+use Rattle.cd_syntax.proofs.Added.{length_added}
 use Rattle.cd_grammar.proofs.Kept.{kept, all_fit}
 use Rattle.cd_grammar.proofs.Lexed.{lexed_cut}
 use Rattle.cd_grammar.proofs.Moves.{waiting, replaced_waiting, IsBehind, Moves}
 use Rattle.cd_meaning.specs.NodesTable.{nodes-Name}
-use Rattle.cd_grammar.proofs.OperandNodes.{nodes_made}
+use Rattle.cd_syntax.proofs.OperandNodes.{nodes_made}
 
 -- behind n items so much is known at most
 record IsFew (n : ℕ) (known : Known) (stack : List Symbol) : Type 0 where

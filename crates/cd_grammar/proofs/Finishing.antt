@@ -9,27 +9,28 @@ use Rattle.cd_meaning.specs.Nodes.{nodes}
 use Rattle.cd_lex.specs.declared.token.Token.{Token}
 use Rattle.cd_lex.specs.Tokens.{HasItems, Ending, AtEnd, AtBad, kinds, placed}
 use Rattle.cd_lex.proofs.CutLaws.{items_unique, items_are_unique}
-use Rattle.cd_grammar.specs.declared.item.Item.{Item}
-use Rattle.cd_grammar.specs.declared.known.Known.{Known}
+use Rattle.cd_syntax.specs.declared.item.Item.{Item}
+use Rattle.cd_syntax.specs.declared.known.Known.{Known}
 use Rattle.cd_grammar.specs.declared.parser.Parser.{Parser}
-use Rattle.cd_grammar.specs.declared.refusal.Refusal.{Refusal}
+use Rattle.cd_syntax.specs.declared.refusal.Refusal.{Refusal}
 use Rattle.cd_grammar.specs.declared.symbol.Symbol.{Symbol}
 use Rattle.cd_grammar.specs.Causes.{stand_after, cause_of, Standing, Going, Stopped}
-use Rattle.cd_grammar.specs.Grammar.{IsDocument, IsRead, IsOf, nesting}
-use Rattle.cd_grammar.specs.Items.{placed_items, item_at, all_of, last_item, item_of}
-use Rattle.cd_grammar.specs.Laws.{KnownIsSound}
+use Rattle.cd_syntax.specs.Grammar.{IsDocument, IsRead, IsOf, nesting}
+use Rattle.cd_syntax.specs.Items.{placed_items, item_at, all_of, last_item, item_of}
+use Rattle.cd_syntax.specs.Laws.{KnownIsSound}
 use Rattle.cd_grammar.specs.Machine.{step, after, start}
-use Rattle.cd_grammar.specs.Reading.{IsSound, IsFinished, standing, started}
-use Rattle.cd_grammar.specs.Refusal.{refusal_at, IsFaulty, IsUnread}
+use Rattle.cd_syntax.specs.Bounds.{IsSound}
+use Rattle.cd_grammar.specs.Reading.{IsFinished, standing, started}
+use Rattle.cd_syntax.specs.Refusal.{refusal_at, IsFaulty, IsUnread}
 use Rattle.cd_grammar.specs.Taking.{TakesText}
 use Rattle.cd_grammar.proofs.Accepts.{accepts}
-use Rattle.cd_grammar.proofs.Cuts.{Found, found_in, all_items}
+use Rattle.cd_syntax.proofs.Cuts.{Found, found_in, all_items}
 use Rattle.cd_grammar.proofs.Ends.{ends_empty}
-use Rattle.cd_grammar.proofs.FaultsOfTokens.{next_item, whole_to, whole_back, fault_back}
+use Rattle.cd_syntax.proofs.FaultsOfTokens.{next_item, whole_to, whole_back, fault_back}
 use Rattle.cd_grammar.proofs.Few.{few, few_tokens}
 use Rattle.cd_grammar.proofs.First.{faults}
 use Rattle.cd_grammar.proofs.Iris.{iris, kinds_of_cut}
-use Rattle.cd_grammar.proofs.ItemFault.{IsFault as IsItemFault}
+use Rattle.cd_syntax.proofs.ItemFault.{IsFault as IsItemFault}
 use Rattle.cd_grammar.proofs.OneReading.{one_reading}
 use Rattle.cd_grammar.proofs.Numbered.{sound_known}
 use Rattle.cd_grammar.proofs.Takes.{takes}

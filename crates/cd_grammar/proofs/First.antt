@@ -1,12 +1,12 @@
 -- The machine stops at the first fault, with its cause.
 use Rattle.std.proofs.Common.{◌≡◌, List, [], ◌∷◌, ◌++◌, ap, ◌∙◌}
 use Rattle.std.specs.Prelude.{Option, Some, None}
-use Rattle.cd_grammar.specs.declared.item.Item.{Item}
-use Rattle.cd_grammar.specs.declared.known.Known.{Known}
+use Rattle.cd_syntax.specs.declared.item.Item.{Item}
+use Rattle.cd_syntax.specs.declared.known.Known.{Known}
 use Rattle.cd_grammar.specs.declared.symbol.Symbol.{Symbol}
 use Rattle.cd_grammar.specs.Causes.{cause_of}
-use Rattle.cd_grammar.proofs.ItemFault.{IsFront, IsFault}
-use Rattle.cd_grammar.specs.Grammar.{nesting}
+use Rattle.cd_syntax.proofs.ItemFault.{IsFront, IsFault}
+use Rattle.cd_syntax.specs.Grammar.{nesting}
 use Rattle.cd_grammar.specs.Machine.{State, step, after, start}
 use Rattle.cd_grammar.proofs.Causes.{causes}
 use Rattle.cd_grammar.proofs.Runs.{after-append, is_front, front_reaches}

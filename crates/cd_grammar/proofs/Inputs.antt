@@ -3,14 +3,14 @@ use Rattle.std.proofs.Common.{◌≡◌, ◌⊎◌, ◌≤◌, ◌+◌, ℕ, Lis
 use Rattle.std.specs.Prelude.{Option, Some, None, Result, Ok, Err, IfSome}
 use Rattle.std.specs.Io.KnownBytes.{Consumes, IsAtEnd}
 use Rattle.cd_meaning.specs.declared.document.Document.{Document}
-use Rattle.cd_grammar.specs.declared.cause.Cause.{Cause}
-use Rattle.cd_grammar.specs.declared.cause.Cause.TheVariants.{Construct, Prefix, Depth, Syntax}
+use Rattle.cd_syntax.specs.declared.cause.Cause.{Cause}
+use Rattle.cd_syntax.specs.declared.cause.Cause.TheVariants.{Construct, Prefix, Depth, Syntax}
 use Rattle.cd_grammar.specs.declared.input.ReadRefusal.{ReadRefusal}
 use Rattle.cd_grammar.specs.declared.input.ReadRefusal.TheVariants.{Refused}
-use Rattle.cd_grammar.specs.declared.refusal.Refusal.{Refusal}
-use Rattle.cd_grammar.specs.declared.refusal.Refusal.TheVariants.{TooLong}
+use Rattle.cd_syntax.specs.declared.refusal.Refusal.{Refusal}
+use Rattle.cd_syntax.specs.declared.refusal.Refusal.TheVariants.{TooLong}
 use Rattle.cd_grammar.specs.Reading.{IsFinished}
-use Rattle.cd_grammar.specs.Refusal.{refusal_at, IsRefused, IsFaulty, IsUnread}
+use Rattle.cd_syntax.specs.Refusal.{refusal_at, IsRefused, IsFaulty, IsUnread}
 
 -- where nothing is left, these bytes were all
 pub whole : (left later : Option (List ℕ)) (fed : List ℕ) → Consumes left later fed → IsAtEnd later → IfSome left (λ input. (fed ≡ input) × (later ≡ Some []))

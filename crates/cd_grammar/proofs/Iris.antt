@@ -17,13 +17,14 @@ use Rattle.cd_lex.specs.declared.token.Token.{Token}
 use Rattle.cd_lex.specs.Lexing.{IsLexing}
 use Rattle.cd_lex.specs.Machine.{State}
 use Rattle.cd_lex.specs.Tokens.{is_name_byte, Piece, Blank, Comment, Lexeme, spelled, spelled_kind, IsKind, IsCut, placed, Ending, AtEnd, AtBad, HasItems}
-use Rattle.cd_grammar.specs.declared.item.Item.{Item}
-use Rattle.cd_grammar.specs.declared.item.Item.TheVariants.{Short, FullIri}
-use Rattle.cd_grammar.specs.declared.known.Known.{Known}
+use Rattle.cd_syntax.specs.declared.item.Item.{Item}
+use Rattle.cd_syntax.specs.declared.item.Item.TheVariants.{Short, FullIri}
+use Rattle.cd_syntax.specs.declared.known.Known.{Known}
 use Rattle.cd_grammar.specs.declared.symbol.Symbol.{Symbol}
-use Rattle.cd_grammar.specs.Grammar.{begun, nesting}
-use Rattle.cd_grammar.specs.Items.{item_of, item_at, placed_items}
-use Rattle.cd_grammar.specs.Machine.{iri_of, after, start}
+use Rattle.cd_syntax.specs.Grammar.{begun, nesting}
+use Rattle.cd_syntax.specs.Items.{item_of, item_at, placed_items}
+use Rattle.cd_syntax.specs.Named.{iri_of}
+use Rattle.cd_grammar.specs.Machine.{after, start}
 use Rattle.cd_grammar.proofs.Kept.{kept}
 use Rattle.cd_grammar.proofs.Lexed.{lexed_cut}
 use Rattle.cd_grammar.proofs.Moves.{Moves}

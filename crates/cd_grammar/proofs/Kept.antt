@@ -2,11 +2,11 @@
 use Rattle.std.proofs.Common.{◌≡◌, ℕ, ◌+◌, List, [], ◌∷◌, length, subst, arith}
 use Rattle.std.specs.Prelude.{Option, Some, None}
 use Rattle.std.specs.List.{AllByRecursion}
-use Rattle.cd_grammar.specs.declared.item.Item.{Item}
-use Rattle.cd_grammar.specs.declared.known.Known.{Known}
+use Rattle.cd_syntax.specs.declared.item.Item.{Item}
+use Rattle.cd_syntax.specs.declared.known.Known.{Known}
 use Rattle.cd_grammar.specs.declared.symbol.Symbol.{Symbol}
 use Rattle.cd_grammar.specs.declared.symbol.Symbol.TheVariants.{Document}
-use Rattle.cd_grammar.specs.Grammar.{begun, nesting}
+use Rattle.cd_syntax.specs.Grammar.{begun, nesting}
 use Rattle.cd_grammar.specs.Machine.{State, advance, step, after, start}
 use Rattle.cd_grammar.proofs.Moves.{Moves, Goes, advance_goes}
 

@@ -10,20 +10,21 @@ use Rattle.cd_meaning.specs.declared.expression.Expr.TheVariants.{Name}
 use Rattle.cd_meaning.specs.Nodes.{nodes_of}
 use Rattle.cd_names.specs.Names.{number}
 use Rattle.cd_names.specs.Prefixes.{meaning}
-use Rattle.cd_grammar.specs.declared.item.Item.{Item}
-use Rattle.cd_grammar.specs.declared.item.Item.TheVariants.{Word, Short, FullIri}
-use Rattle.cd_grammar.specs.declared.known.Known.{Known}
-use Rattle.cd_grammar.specs.declared.operands.Made.{Made}
+use Rattle.cd_syntax.specs.declared.item.Item.{Item}
+use Rattle.cd_syntax.specs.declared.item.Item.TheVariants.{Word, Short, FullIri}
+use Rattle.cd_syntax.specs.declared.known.Known.{Known}
+use Rattle.cd_syntax.specs.declared.operands.Made.{Made}
 use Rattle.cd_grammar.specs.declared.symbol.Frame.{Frame}
 use Rattle.cd_grammar.specs.declared.symbol.Symbol.{Symbol}
 use Rattle.cd_grammar.specs.declared.symbol.Symbol.TheVariants.{Opening, Closing, Equals, End, Iri, Subject, Class, PrefixIri, Document, Binding, OntologyIri, VersionIri, Notes, Axioms, DeclarationIn, AssertionIn, AnnotationAxiomIn, NoteIn, Value, QuotedEnd, AxiomIn, Inside}
-use Rattle.cd_grammar.specs.declared.words.AxiomForm.{AxiomForm}
-use Rattle.cd_grammar.specs.declared.words.ExprForm.{ExprForm}
-use Rattle.cd_grammar.specs.declared.words.Form.{Form}
-use Rattle.cd_grammar.specs.declared.words.Key.{Key}
-use Rattle.cd_grammar.specs.Grammar.{with_prefix, with_class, with_role, with_axiom}
-use Rattle.cd_grammar.specs.Machine.{State, iri_of, taken_if, by_iri, is_subject, class_taken, bound, noted, bare, with_head, with_part, wants_head_next, wants_part_next, is_role, given, closed, deeper, head_taken, part_taken, operand_taken, inside_taken, axioms_taken, notes_taken, ontology_iri_taken, advance}
-use Rattle.cd_grammar.specs.Operands.{has_class_head, made_of}
+use Rattle.cd_syntax.specs.declared.words.AxiomForm.{AxiomForm}
+use Rattle.cd_syntax.specs.declared.words.ExprForm.{ExprForm}
+use Rattle.cd_syntax.specs.declared.words.Form.{Form}
+use Rattle.cd_syntax.specs.declared.words.Key.{Key}
+use Rattle.cd_syntax.specs.Grammar.{with_prefix, with_class, with_role, with_axiom}
+use Rattle.cd_syntax.specs.Named.{iri_of, is_subject, is_role}
+use Rattle.cd_grammar.specs.Machine.{State, taken_if, by_iri, class_taken, bound, noted, bare, with_head, with_part, wants_head_next, wants_part_next, given, closed, deeper, head_taken, part_taken, operand_taken, inside_taken, axioms_taken, notes_taken, ontology_iri_taken, advance}
+use Rattle.cd_syntax.specs.Operands.{has_class_head, made_of}
 
 -- ---- symbols
 

@@ -10,21 +10,21 @@ use Rattle.cd_meaning.specs.declared.expression.Expr.TheVariants.{Name}
 use Rattle.cd_meaning.specs.Iri.{thing, nothing}
 use Rattle.cd_meaning.specs.Numbered.{is_below, has_numbers_below}
 use Rattle.cd_names.specs.Names.{add_name, number}
-use Rattle.cd_grammar.specs.declared.item.Item.{Item}
-use Rattle.cd_grammar.specs.declared.known.Known.{Known}
-use Rattle.cd_grammar.specs.declared.operands.Made.{Made}
+use Rattle.cd_syntax.specs.declared.item.Item.{Item}
+use Rattle.cd_syntax.specs.declared.known.Known.{Known}
+use Rattle.cd_syntax.specs.declared.operands.Made.{Made}
 use Rattle.cd_grammar.specs.declared.symbol.Frame.{Frame}
 use Rattle.cd_grammar.specs.declared.symbol.Symbol.{Symbol}
 use Rattle.cd_grammar.specs.declared.symbol.Symbol.TheVariants.{Document, Inside}
-use Rattle.cd_grammar.specs.Grammar.{begun, with_class, with_role, with_axiom, nesting}
+use Rattle.cd_syntax.specs.Grammar.{begun, with_class, with_role, with_axiom, nesting}
 use Rattle.cd_grammar.specs.Machine.{with_head, with_part, after, start}
-use Rattle.cd_grammar.specs.Operands.{has_class_head}
-use Rattle.cd_grammar.specs.Reading.{IsSound}
-use Rattle.cd_grammar.proofs.Added.{added_length, number_within, distinct_added, reserved_added}
+use Rattle.cd_syntax.specs.Operands.{has_class_head}
+use Rattle.cd_syntax.specs.Bounds.{IsSound}
+use Rattle.cd_syntax.proofs.Added.{added_length, number_within, distinct_added, reserved_added}
 use Rattle.cd_grammar.proofs.Kept.{kept, all_fit}
 use Rattle.cd_grammar.proofs.Moves.{is_operandless, replaced_operandless, IsBehind, Moves}
 use Rattle.cd_meaning.specs.NodesTable.{below-Name}
-use Rattle.cd_grammar.proofs.OperandNumbers.{HaveNumbersBelow, operands_stay, axioms_stay, made_below}
+use Rattle.cd_syntax.proofs.OperandNumbers.{HaveNumbersBelow, operands_stay, axioms_stay, made_below}
 
 -- ---- what is wanted
 

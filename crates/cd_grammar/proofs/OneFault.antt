@@ -1,10 +1,10 @@
 -- A fault behind some items has one cause.
 use Rattle.std.proofs.Common.{◌≡◌, ℕ, List, refl, ap, inl, inr}
-use Rattle.cd_grammar.specs.declared.cause.Cause.{Cause}
-use Rattle.cd_grammar.specs.declared.cause.Cause.TheVariants.{Construct, Prefix, Depth, Syntax}
-use Rattle.cd_grammar.specs.declared.item.Item.{Item}
-use Rattle.cd_grammar.proofs.ItemFault.{IsFront, IsRefused, IsCause}
-use Rattle.cd_grammar.specs.Grammar.{nesting}
+use Rattle.cd_syntax.specs.declared.cause.Cause.{Cause}
+use Rattle.cd_syntax.specs.declared.cause.Cause.TheVariants.{Construct, Prefix, Depth, Syntax}
+use Rattle.cd_syntax.specs.declared.item.Item.{Item}
+use Rattle.cd_syntax.proofs.ItemFault.{IsFront, IsRefused, IsCause}
+use Rattle.cd_syntax.specs.Grammar.{nesting}
 use Rattle.cd_grammar.proofs.Causes.{refused_only}
 use Rattle.cd_grammar.proofs.Runs.{front_reaches}
 

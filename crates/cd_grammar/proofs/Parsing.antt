@@ -2,13 +2,13 @@
 use Rattle.std.proofs.Common.{◌≡◌, Bool, false, List, ◌∷◌, sym, ap, subst, ◌∙◌}
 use Rattle.std.specs.Prelude.{Option, Some, None}
 use Rattle.std.proofs.lemmas.Bool.{false≢true}
-use Rattle.cd_grammar.specs.declared.cause.Cause.{Cause}
-use Rattle.cd_grammar.specs.declared.item.Item.{Item}
-use Rattle.cd_grammar.specs.declared.known.Known.{Known}
+use Rattle.cd_syntax.specs.declared.cause.Cause.{Cause}
+use Rattle.cd_syntax.specs.declared.item.Item.{Item}
+use Rattle.cd_syntax.specs.declared.known.Known.{Known}
 use Rattle.cd_grammar.specs.declared.parser.Parser.{Parser}
 use Rattle.cd_grammar.specs.declared.symbol.Symbol.{Symbol}
 use Rattle.cd_grammar.specs.Causes.{cause_of, first_of_causes, refused, is_unknown, is_prefix_iri, is_over, wants_role}
-use Rattle.cd_grammar.specs.Grammar.{nesting}
+use Rattle.cd_syntax.specs.Grammar.{nesting}
 use Rattle.cd_grammar.specs.Machine.{State, step, advance, IsTaken}
 use Rattle.cd_grammar.specs.Reading.{IsTried}
 

@@ -6,18 +6,18 @@ use Rattle.cd_meaning.specs.declared.expression.Expr.{Expr}
 use Rattle.cd_meaning.specs.declared.expression.Axiom.TheVariants.{SubClass, SameClasses, Disjoint, DisjointUnion, SubRole, SameRoles, Domain, Range}
 use Rattle.cd_meaning.specs.declared.expression.Expr.TheVariants.{Name, Meet, Join, Minus, SomeOf, AllOf}
 use Rattle.cd_names.specs.Names.{number}
-use Rattle.cd_grammar.specs.declared.item.Item.{Item}
-use Rattle.cd_grammar.specs.declared.item.Item.TheVariants.{FullIri}
-use Rattle.cd_grammar.specs.declared.known.Known.{Known}
-use Rattle.cd_grammar.specs.declared.operands.Made.{Made}
+use Rattle.cd_syntax.specs.declared.item.Item.{Item}
+use Rattle.cd_syntax.specs.declared.item.Item.TheVariants.{FullIri}
+use Rattle.cd_syntax.specs.declared.known.Known.{Known}
+use Rattle.cd_syntax.specs.declared.operands.Made.{Made}
 use Rattle.cd_grammar.specs.declared.symbol.Frame.{Frame}
-use Rattle.cd_grammar.specs.declared.words.AxiomForm.{AxiomForm}
-use Rattle.cd_grammar.specs.declared.words.AxiomForm.TheVariants.{SubClassOf, EquivalentClasses, DisjointClasses, SubObjectPropertyOf, EquivalentObjectProperties, ObjectPropertyDomain, ObjectPropertyRange}
-use Rattle.cd_grammar.specs.declared.words.ExprForm.TheVariants.{ObjectIntersectionOf, ObjectUnionOf, ObjectComplementOf, ObjectSomeValuesFrom, ObjectAllValuesFrom}
-use Rattle.cd_grammar.specs.declared.words.Form.{Form}
-use Rattle.cd_grammar.specs.Grammar.{with_axiom, with_class, with_role}
-use Rattle.cd_grammar.proofs.ItemGrammar.{Wanted, ClassOf, RoleOf, ExprOf, Leads, head_of, operands}
-use Rattle.cd_grammar.specs.Operands.{heads_of, has_more_heads, parts_of, has_more_parts, has_class_head, made_of}
+use Rattle.cd_syntax.specs.declared.words.AxiomForm.{AxiomForm}
+use Rattle.cd_syntax.specs.declared.words.AxiomForm.TheVariants.{SubClassOf, EquivalentClasses, DisjointClasses, SubObjectPropertyOf, EquivalentObjectProperties, ObjectPropertyDomain, ObjectPropertyRange}
+use Rattle.cd_syntax.specs.declared.words.ExprForm.TheVariants.{ObjectIntersectionOf, ObjectUnionOf, ObjectComplementOf, ObjectSomeValuesFrom, ObjectAllValuesFrom}
+use Rattle.cd_syntax.specs.declared.words.Form.{Form}
+use Rattle.cd_syntax.specs.Grammar.{with_axiom, with_class, with_role}
+use Rattle.cd_syntax.proofs.ItemGrammar.{Wanted, ClassOf, RoleOf, ExprOf, Leads, head_of, operands}
+use Rattle.cd_syntax.specs.Operands.{heads_of, has_more_heads, parts_of, has_more_parts, has_class_head, made_of}
 use Rattle.cd_grammar.proofs.Fills.{Completes, last_of, handed_by}
 
 -- ---- derivations beside each other

@@ -2,17 +2,17 @@
 use Rattle.std.proofs.Common.{◌≡◌, ℕ, ◌+◌, Bool, true, false, List, [], ◌∷◌, ◌++◌, length, refl, sym, ap, subst, arith, length-append}
 use Rattle.std.proofs.lemmas.List.{nil_from_length}
 use Rattle.cd_meaning.specs.declared.expression.Expr.{Expr}
-use Rattle.cd_grammar.specs.declared.known.Known.{Known}
+use Rattle.cd_syntax.specs.declared.known.Known.{Known}
 use Rattle.cd_grammar.specs.declared.symbol.Frame.{Frame}
 use Rattle.cd_grammar.specs.declared.symbol.Symbol.{Symbol}
 use Rattle.cd_grammar.specs.declared.symbol.Symbol.TheVariants.{Inside}
-use Rattle.cd_grammar.specs.declared.words.AxiomForm.{AxiomForm}
-use Rattle.cd_grammar.specs.declared.words.Form.{Form}
+use Rattle.cd_syntax.specs.declared.words.AxiomForm.{AxiomForm}
+use Rattle.cd_syntax.specs.declared.words.Form.{Form}
 use Rattle.cd_grammar.specs.Causes.{wants_role_next}
-use Rattle.cd_grammar.specs.Grammar.{nesting}
-use Rattle.cd_grammar.proofs.ItemGrammar.{Wanted, RoleOf, AxiomIn, Leads, head_of}
+use Rattle.cd_syntax.specs.Grammar.{nesting}
+use Rattle.cd_syntax.proofs.ItemGrammar.{Wanted, RoleOf, AxiomIn, Leads, head_of}
 use Rattle.cd_grammar.specs.Machine.{bare, with_head, wants_head_next}
-use Rattle.cd_grammar.specs.Operands.{has_class_head}
+use Rattle.cd_syntax.specs.Operands.{has_class_head}
 use Rattle.cd_grammar.proofs.Begins.{role_at}
 use Rattle.cd_grammar.proofs.Closable.{head_pending}
 use Rattle.cd_grammar.proofs.Closes.{IsClosable, closes}

@@ -1,13 +1,13 @@
 -- Runs of the machine over items, and derivations along them.
 use Rattle.std.proofs.Common.{◌≡◌, ℕ, List, [], ◌∷◌, ◌++◌, refl, sym, ◌∙◌, subst, append-nil}
 use Rattle.std.specs.Prelude.{Option, Some, None}
-use Rattle.cd_grammar.specs.declared.item.Item.{Item}
-use Rattle.cd_grammar.specs.declared.known.Known.{Known}
+use Rattle.cd_syntax.specs.declared.item.Item.{Item}
+use Rattle.cd_syntax.specs.declared.known.Known.{Known}
 use Rattle.cd_grammar.specs.declared.symbol.Symbol.{Symbol}
 use Rattle.cd_grammar.specs.declared.symbol.Symbol.TheVariants.{Document}
-use Rattle.cd_grammar.proofs.ItemFault.{IsFront, IsBehind}
-use Rattle.cd_grammar.specs.Grammar.{begun, nesting}
-use Rattle.cd_grammar.proofs.ItemGrammar.{Wanted, Text, Leads}
+use Rattle.cd_syntax.proofs.ItemFault.{IsFront, IsBehind}
+use Rattle.cd_syntax.specs.Grammar.{begun, nesting}
+use Rattle.cd_syntax.proofs.ItemGrammar.{Wanted, Text, Leads}
 use Rattle.cd_grammar.specs.Machine.{State, step, after, start}
 use Rattle.cd_grammar.proofs.Sound.{sound}
 use Rattle.cd_grammar.proofs.Takes.{reaches}

@@ -5,19 +5,20 @@ use Rattle.std.specs.Str.{bytes_eq}
 use Rattle.std.proofs.lemmas.Slice.Eq.{bytes_eq-Decides}
 use Rattle.cd_names.specs.Names.{number}
 use Rattle.cd_names.specs.Prefixes.{meaning}
-use Rattle.cd_grammar.specs.declared.item.Item.{Item}
-use Rattle.cd_grammar.specs.declared.item.Item.TheVariants.{Word, Short, FullIri}
-use Rattle.cd_grammar.specs.declared.known.Known.{Known}
+use Rattle.cd_syntax.specs.declared.item.Item.{Item}
+use Rattle.cd_syntax.specs.declared.item.Item.TheVariants.{Word, Short, FullIri}
+use Rattle.cd_syntax.specs.declared.known.Known.{Known}
 use Rattle.cd_grammar.specs.declared.symbol.Symbol.{Symbol}
 use Rattle.cd_grammar.specs.declared.symbol.Symbol.TheVariants.{Opening, Closing, Equals, End, Iri, Class, Document, Binding, VersionIri, QuotedEnd, Inside}
-use Rattle.cd_grammar.specs.declared.words.AxiomForm.{AxiomForm}
-use Rattle.cd_grammar.specs.declared.words.Form.{Form}
-use Rattle.cd_grammar.specs.declared.words.Key.{Key}
-use Rattle.cd_grammar.specs.Grammar.{with_class, with_prefix}
-use Rattle.cd_grammar.proofs.ItemGrammar.{Wanted, Exact, AnyIri, ClassOf, Text, IsAnyIri, IsNoted, Line, Leads, opened}
-use Rattle.cd_grammar.specs.Machine.{State, iri_of, is_subject, class_taken, bound, noted, bare, axioms_taken, notes_taken, ontology_iri_taken, inside_taken, advance}
+use Rattle.cd_syntax.specs.declared.words.AxiomForm.{AxiomForm}
+use Rattle.cd_syntax.specs.declared.words.Form.{Form}
+use Rattle.cd_syntax.specs.declared.words.Key.{Key}
+use Rattle.cd_syntax.specs.Grammar.{with_class, with_prefix}
+use Rattle.cd_syntax.proofs.ItemGrammar.{Wanted, Exact, AnyIri, ClassOf, Text, IsAnyIri, IsNoted, Line, Leads, opened}
+use Rattle.cd_syntax.specs.Named.{iri_of, is_subject}
+use Rattle.cd_grammar.specs.Machine.{State, class_taken, bound, noted, bare, axioms_taken, notes_taken, ontology_iri_taken, inside_taken, advance}
 use Rattle.cd_grammar.proofs.Fills.{Wants, Fills}
-use Rattle.cd_grammar.proofs.Items.{means, subject}
+use Rattle.cd_syntax.proofs.Items.{means, subject}
 use Rattle.cd_grammar.proofs.SoundForms.{IsSoundStep, InTurn, Follows, pushed_sound, if_sound, iri_sound}
 use Rattle.cd_grammar.proofs.SoundOperands.{inside_sound, axiom_sound}
 

@@ -3,15 +3,16 @@ use Rattle.std.proofs.Common.{◌≡◌, ℕ, Bool, true, false, List, [], ◌�
 use Rattle.std.specs.Prelude.{Option, Some, None, is_some}
 use Rattle.cd_meaning.specs.declared.expression.Axiom.{Axiom}
 use Rattle.cd_meaning.specs.declared.expression.Expr.{Expr}
-use Rattle.cd_grammar.specs.declared.item.Item.{Item}
-use Rattle.cd_grammar.specs.declared.item.Item.TheVariants.{Short}
-use Rattle.cd_grammar.specs.declared.known.Known.{Known}
+use Rattle.cd_syntax.specs.declared.item.Item.{Item}
+use Rattle.cd_syntax.specs.declared.item.Item.TheVariants.{Short}
+use Rattle.cd_syntax.specs.declared.known.Known.{Known}
 use Rattle.cd_grammar.specs.declared.symbol.Symbol.{Symbol}
 use Rattle.cd_grammar.specs.declared.symbol.Symbol.TheVariants.{Opening, Closing, Equals, End, Iri, Class, Document, Binding, VersionIri, QuotedEnd, Inside}
-use Rattle.cd_grammar.proofs.ItemGrammar.{Wanted, Exact, AnyIri, ClassOf, Text, IsAnyIri, IsMade, Leads}
-use Rattle.cd_grammar.specs.Machine.{State, iri_of, taken_if, by_iri}
+use Rattle.cd_syntax.proofs.ItemGrammar.{Wanted, Exact, AnyIri, ClassOf, Text, IsAnyIri, IsMade, Leads}
+use Rattle.cd_syntax.specs.Named.{iri_of}
+use Rattle.cd_grammar.specs.Machine.{State, taken_if, by_iri}
 use Rattle.cd_grammar.proofs.Fills.{Wants, Fills}
-use Rattle.cd_grammar.proofs.Items.{any_iri}
+use Rattle.cd_syntax.proofs.Items.{any_iri}
 
 -- what may follow the answer may follow, in the grammar, the symbol and the item
 abbrev pub IsSoundStep : ℕ → Known → Symbol → Item → List Symbol → Option State → Type 0

@@ -7,23 +7,24 @@ use Rattle.cd_meaning.specs.declared.expression.Axiom.{Axiom}
 use Rattle.cd_meaning.specs.declared.expression.Expr.{Expr}
 use Rattle.cd_meaning.specs.declared.expression.Expr.TheVariants.{Name}
 use Rattle.cd_names.specs.Names.{number}
-use Rattle.cd_grammar.specs.declared.item.Item.{Item}
-use Rattle.cd_grammar.specs.declared.item.Item.TheVariants.{Word}
-use Rattle.cd_grammar.specs.declared.known.Known.{Known}
-use Rattle.cd_grammar.specs.declared.operands.Made.{Made}
+use Rattle.cd_syntax.specs.declared.item.Item.{Item}
+use Rattle.cd_syntax.specs.declared.item.Item.TheVariants.{Word}
+use Rattle.cd_syntax.specs.declared.known.Known.{Known}
+use Rattle.cd_syntax.specs.declared.operands.Made.{Made}
 use Rattle.cd_grammar.specs.declared.symbol.Frame.{Frame}
 use Rattle.cd_grammar.specs.declared.symbol.Symbol.{Symbol}
 use Rattle.cd_grammar.specs.declared.symbol.Symbol.TheVariants.{Inside}
-use Rattle.cd_grammar.specs.declared.words.AxiomForm.{AxiomForm}
-use Rattle.cd_grammar.specs.declared.words.ExprForm.{ExprForm}
-use Rattle.cd_grammar.specs.declared.words.Form.{Form}
-use Rattle.cd_grammar.specs.declared.words.Key.{Key}
-use Rattle.cd_grammar.specs.Grammar.{with_class, with_role}
-use Rattle.cd_grammar.proofs.ItemGrammar.{Wanted, Exact, ClassOf, RoleOf, ClosingOf, ExprOf, Means, Leads, head_of, operands, opened, IsBuilt, Line, IsMade}
-use Rattle.cd_grammar.specs.Machine.{State, iri_of, bare, with_head, with_part, wants_head_next, wants_part_next, is_role, given, closed, deeper, head_taken, part_taken, operand_taken, inside_taken}
-use Rattle.cd_grammar.specs.Operands.{axiom_of, expression_of, made_of, has_class_head}
+use Rattle.cd_syntax.specs.declared.words.AxiomForm.{AxiomForm}
+use Rattle.cd_syntax.specs.declared.words.ExprForm.{ExprForm}
+use Rattle.cd_syntax.specs.declared.words.Form.{Form}
+use Rattle.cd_syntax.specs.declared.words.Key.{Key}
+use Rattle.cd_syntax.specs.Grammar.{with_class, with_role}
+use Rattle.cd_syntax.proofs.ItemGrammar.{Wanted, Exact, ClassOf, RoleOf, ClosingOf, ExprOf, Means, Leads, head_of, operands, opened, IsBuilt, Line, IsMade}
+use Rattle.cd_syntax.specs.Named.{iri_of, is_role}
+use Rattle.cd_grammar.specs.Machine.{State, bare, with_head, with_part, wants_head_next, wants_part_next, given, closed, deeper, head_taken, part_taken, operand_taken, inside_taken}
+use Rattle.cd_syntax.specs.Operands.{axiom_of, expression_of, made_of, has_class_head}
 use Rattle.cd_grammar.proofs.Fills.{last_of, handed_by, Completes, Fills}
-use Rattle.cd_grammar.proofs.Items.{means, is_role-Decides}
+use Rattle.cd_syntax.proofs.Items.{means, is_role-Decides}
 use Rattle.cd_grammar.proofs.SoundForms.{IsSoundStep, if_sound}
 
 -- ---- what may follow behind one operand more

@@ -3,16 +3,16 @@ use Rattle.std.proofs.Common.{◌≡◌, ◌<◌, ◌^◌, ◌-◌, false, List,
 use Rattle.std.proofs.lemmas.List.{length-map}
 use Rattle.std.specs.Prelude.{Option, Some, None, is_some}
 use Rattle.std.specs.List.{fold}
-use Rattle.cd_grammar.specs.declared.known.Known.{Known}
+use Rattle.cd_syntax.specs.declared.known.Known.{Known}
 use Rattle.cd_grammar.specs.declared.parser.Parser.{Parser}
-use Rattle.cd_grammar.specs.declared.refusal.Refusal.{Refusal}
+use Rattle.cd_syntax.specs.declared.refusal.Refusal.{Refusal}
 use Rattle.cd_grammar.specs.declared.symbol.Symbol.{Symbol}
 use Rattle.cd_grammar.specs.Causes.{cause_of, stand_after, standing_of, Standing, Going, Stopped}
-use Rattle.cd_grammar.specs.Grammar.{nesting}
-use Rattle.cd_grammar.specs.Items.{PlacedItem, item_at}
+use Rattle.cd_syntax.specs.Grammar.{nesting}
+use Rattle.cd_syntax.specs.Items.{PlacedItem, item_at}
 use Rattle.cd_grammar.specs.Machine.{State, step, after, start}
 use Rattle.cd_grammar.specs.Reading.{standing, started}
-use Rattle.cd_grammar.specs.Refusal.{refusal_at}
+use Rattle.cd_syntax.specs.Refusal.{refusal_at}
 use Rattle.cd_grammar.proofs.Few.{few}
 
 -- what the machine says where a parser stands

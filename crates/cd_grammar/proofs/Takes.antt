@@ -2,12 +2,12 @@
 use Rattle.std.proofs.Common.{◌≡◌, ℕ, zero, suc, List, [], ◌∷◌, ◌++◌, refl, ap, subst, ◌∙◌, inl, inr, arith}
 use Rattle.std.specs.Prelude.{Option, Some}
 use Rattle.cd_meaning.specs.declared.expression.Expr.{Expr}
-use Rattle.cd_grammar.specs.declared.item.Item.{Item}
-use Rattle.cd_grammar.specs.declared.known.Known.{Known}
+use Rattle.cd_syntax.specs.declared.item.Item.{Item}
+use Rattle.cd_syntax.specs.declared.known.Known.{Known}
 use Rattle.cd_grammar.specs.declared.symbol.Symbol.{Symbol}
 use Rattle.cd_grammar.specs.declared.symbol.Symbol.TheVariants.{Class, Document, Binding, Inside}
-use Rattle.cd_grammar.specs.Grammar.{nesting, begun}
-use Rattle.cd_grammar.proofs.ItemGrammar.{Wanted, Text, AxiomIn, ExprOf, IsNoted, Line, Leads, IsWhole}
+use Rattle.cd_syntax.specs.Grammar.{nesting, begun}
+use Rattle.cd_syntax.proofs.ItemGrammar.{Wanted, Text, AxiomIn, ExprOf, IsNoted, Line, Leads, IsWhole}
 use Rattle.cd_grammar.specs.Machine.{State, after, start}
 use Rattle.cd_grammar.proofs.Complete.{complete}
 use Rattle.cd_grammar.proofs.Fills.{Wants, Fills}

@@ -12,7 +12,7 @@ use Rattle.cd_lex.specs.Tokens.{HasItems, Ending, AtEnd, AtBad}
 use Rattle.cd_lex.specs.Machine.{State}
 use Rattle.cd_grammar.specs.declared.parser.Parser.{Parser}
 use Rattle.cd_grammar.specs.Causes.{stand_after, Standing}
-use Rattle.cd_grammar.specs.Items.{PlacedItem, placed_items, item_of, last_item}
+use Rattle.cd_syntax.specs.Items.{PlacedItem, placed_items, item_of, last_item}
 use Rattle.cd_grammar.specs.Reading.{standing, started}
 use Rattle.cd_grammar.specs.Taking.{Takes, TakesAll, TakesText, IsLast}
 use Rattle.cd_grammar.proofs.Few.{few_taken}

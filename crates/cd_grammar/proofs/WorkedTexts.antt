@@ -8,12 +8,12 @@ use Rattle.cd_meaning.specs.Iri.{reserved_classes}
 use Rattle.cd_lex.specs.declared.token.Token.{Token}
 use Rattle.cd_lex.specs.Tokens.{Ending, placed}
 use Rattle.cd_lex.proofs.CutComputed.{cut_of, ending_of, items_are}
-use Rattle.cd_grammar.specs.declared.refusal.Refusal.{Refusal}
+use Rattle.cd_syntax.specs.declared.refusal.Refusal.{Refusal}
 use Rattle.cd_grammar.specs.Causes.{stand_after, Standing, Going, Stopped}
-use Rattle.cd_grammar.specs.Items.{all_of}
+use Rattle.cd_syntax.specs.Items.{all_of}
 use Rattle.cd_grammar.specs.Reading.{started}
-use Rattle.cd_grammar.specs.Refusal.{IsFaulty}
-use Rattle.cd_grammar.specs.WorkedTexts.{IsReadAs, WorkedDocuments, WorkedFaults}
+use Rattle.cd_syntax.specs.Refusal.{IsFaulty}
+use Rattle.cd_syntax.specs.WorkedTexts.{IsReadAs, WorkedDocuments, WorkedFaults}
 use Rattle.cd_grammar.proofs.Finishing.{faulty, document_at, ends_by}
 use Rattle.cd_grammar.proofs.Standing.{goes_on}
 

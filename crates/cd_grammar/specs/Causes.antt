@@ -2,22 +2,23 @@
 use Rattle.std.specs.Prelude.{ℕ, zero, suc, Bool, true, false, not, ◌&&◌, List, [], ◌∷◌, Option, Some, None, is_some}
 use Rattle.std.specs.Str.{bytes_eq}
 use Rattle.cd_names.specs.Prefixes.{meaning}
-use Rattle.cd_grammar.specs.declared.cause.Cause.{Cause}
-use Rattle.cd_grammar.specs.declared.cause.Cause.TheVariants.{Construct, Prefix, Depth, Syntax}
-use Rattle.cd_grammar.specs.declared.item.Item.{Item}
-use Rattle.cd_grammar.specs.declared.item.Item.TheVariants.{Word, Short, FullIri}
-use Rattle.cd_grammar.specs.declared.known.Known.{Known}
-use Rattle.cd_grammar.specs.declared.refusal.Refusal.{Refusal}
+use Rattle.cd_syntax.specs.declared.cause.Cause.{Cause}
+use Rattle.cd_syntax.specs.declared.cause.Cause.TheVariants.{Construct, Prefix, Depth, Syntax}
+use Rattle.cd_syntax.specs.declared.item.Item.{Item}
+use Rattle.cd_syntax.specs.declared.item.Item.TheVariants.{Word, Short, FullIri}
+use Rattle.cd_syntax.specs.declared.known.Known.{Known}
+use Rattle.cd_syntax.specs.declared.refusal.Refusal.{Refusal}
 use Rattle.cd_grammar.specs.declared.symbol.Frame.{Frame}
 use Rattle.cd_grammar.specs.declared.symbol.Symbol.{Symbol}
 use Rattle.cd_grammar.specs.declared.symbol.Symbol.TheVariants.{PrefixIri, NoteIn, AxiomIn, Inside}
-use Rattle.cd_grammar.specs.declared.words.Form.{Form}
-use Rattle.cd_grammar.specs.declared.words.Key.{Key}
-use Rattle.cd_grammar.specs.Grammar.{top_role, bottom_role, nesting}
-use Rattle.cd_grammar.specs.Items.{PlacedItem}
-use Rattle.cd_grammar.specs.Operands.{has_class_head}
-use Rattle.cd_grammar.specs.Refusal.{refusal_at}
-use Rattle.cd_grammar.specs.Machine.{State, iri_of, bare, wants_head_next, wants_part_next, step}
+use Rattle.cd_syntax.specs.declared.words.Form.{Form}
+use Rattle.cd_syntax.specs.declared.words.Key.{Key}
+use Rattle.cd_syntax.specs.Grammar.{top_role, bottom_role, nesting}
+use Rattle.cd_syntax.specs.Items.{PlacedItem}
+use Rattle.cd_syntax.specs.Operands.{has_class_head}
+use Rattle.cd_syntax.specs.Refusal.{refusal_at}
+use Rattle.cd_syntax.specs.Named.{iri_of}
+use Rattle.cd_grammar.specs.Machine.{State, bare, wants_head_next, wants_part_next, step}
 
 -- behind these operands a role may stand
 abbrev pub wants_role_next : Frame → Bool

@@ -1,13 +1,4 @@
 pub mod Causes
-pub mod Constructs
-pub mod Fault
-pub mod Grammar
-pub mod Items
-pub mod Laws
 pub mod Machine
-pub mod Operands
 pub mod Reading
-pub mod Refusal
 pub mod Taking
-pub mod Words
-pub mod WorkedTexts

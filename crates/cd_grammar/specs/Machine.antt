@@ -1,34 +1,28 @@
 -- The grammar as a machine that takes an item at a time. What is wanted next stands first. The definitions of documents don't speak of
 -- it: proofs/ shows that it takes exactly the documents.
-use Rattle.std.specs.Prelude.{◌≡◌, ℕ, zero, suc, Bool, true, false, not, ◌&&◌, if◌then◌else◌, List, [], ◌∷◌, ◌++◌, length, Option, Some, None, is_some}
-use Rattle.std.specs.Option.{option_map}
+use Rattle.std.specs.Prelude.{◌≡◌, ℕ, zero, suc, Bool, true, false, if◌then◌else◌, List, [], ◌∷◌, ◌++◌, length, Option, Some, None, is_some}
 use Rattle.std.specs.Str.{bytes_eq}
 use Rattle.cd_meaning.specs.declared.expression.Expr.{Expr}
 use Rattle.cd_meaning.specs.declared.expression.Expr.TheVariants.{Name}
 use Rattle.cd_names.specs.Names.{number}
 use Rattle.cd_names.specs.Prefixes.{meaning}
-use Rattle.cd_grammar.specs.declared.item.Item.{Item}
-use Rattle.cd_grammar.specs.declared.item.Item.TheVariants.{Word, Short, Node, FullIri}
-use Rattle.cd_grammar.specs.declared.known.Known.{Known}
-use Rattle.cd_grammar.specs.declared.operands.Made.{Made}
+use Rattle.cd_syntax.specs.declared.item.Item.{Item}
+use Rattle.cd_syntax.specs.declared.item.Item.TheVariants.{Word, Short, FullIri}
+use Rattle.cd_syntax.specs.declared.known.Known.{Known}
+use Rattle.cd_syntax.specs.declared.operands.Made.{Made}
 use Rattle.cd_grammar.specs.declared.symbol.Frame.{Frame}
 use Rattle.cd_grammar.specs.declared.symbol.Symbol.{Symbol}
 use Rattle.cd_grammar.specs.declared.symbol.Symbol.TheVariants.{Opening, Closing, Equals, End, Iri, Subject, Class, PrefixIri, Document, Binding, OntologyIri, VersionIri, Notes, Axioms, DeclarationIn, AssertionIn, AnnotationAxiomIn, NoteIn, Value, QuotedEnd, AxiomIn, Inside}
-use Rattle.cd_grammar.specs.declared.words.ExprForm.{ExprForm}
-use Rattle.cd_grammar.specs.declared.words.Form.{Form}
-use Rattle.cd_grammar.specs.declared.words.Key.{Key}
-use Rattle.cd_grammar.specs.Grammar.{begun, with_prefix, with_class, with_role, with_axiom, top_role, bottom_role}
-use Rattle.cd_grammar.specs.Operands.{wants_head, wants_part, has_class_head, made_of}
+use Rattle.cd_syntax.specs.declared.words.ExprForm.{ExprForm}
+use Rattle.cd_syntax.specs.declared.words.Form.{Form}
+use Rattle.cd_syntax.specs.declared.words.Key.{Key}
+use Rattle.cd_syntax.specs.Grammar.{begun, with_prefix, with_class, with_role, with_axiom}
+use Rattle.cd_syntax.specs.Named.{iri_of, is_subject, is_role}
+use Rattle.cd_syntax.specs.Operands.{wants_head, wants_part, has_class_head, made_of}
 
 -- what is known, and what is wanted
 abbrev pub State : Type 0
 State = Known × List Symbol
-
--- the IRI that the item stands for
-abbrev pub iri_of : Known → Item → Option (List ℕ)
-iri_of known (FullIri i) = Some i
-iri_of known (Short p l) = option_map (λ base. base ++ l) (meaning known.prefixes p)
-iri_of known other = None
 
 abbrev pub taken_if : Bool → State → Option State
 taken_if true state = Some state
@@ -37,20 +31,6 @@ taken_if false state = None
 -- an item that stands for an IRI
 abbrev pub by_iri : Option (List ℕ) → State → Option State
 by_iri iri state = taken_if (is_some iri) state
-
-abbrev pub is_empty : List ℕ → Bool
-is_empty [] = true
-is_empty (b ∷ more) = false
-
--- an anonymous individual with a name
-abbrev pub is_node : Item → Bool
-is_node (Node []) = false
-is_node (Node (b ∷ more)) = true
-is_node other = false
-
-abbrev pub is_subject : Known → Item → Bool
-is_subject known (Node l) = not (is_empty l)
-is_subject known item = is_some (iri_of known item)
 
 abbrev pub class_taken : Known → List Symbol → Option (List ℕ) → Option State
 class_taken known stack None = None
@@ -85,9 +65,6 @@ wants_head_next frame = wants_head frame.form (length frame.heads) (length frame
 
 abbrev pub wants_part_next : Frame → Bool
 wants_part_next frame = wants_part frame.form (length frame.heads) (length frame.parts)
-
-abbrev pub is_role : List ℕ → Bool
-is_role i = not (bytes_eq i top_role) && not (bytes_eq i bottom_role)
 
 -- the expression is the next part of what is wanted first
 abbrev pub given : Known → Expr → List Symbol → Option State
@@ -209,20 +186,6 @@ is_mark Closing Item.Closing = true
 is_mark Equals Item.Equals = true
 is_mark End Item.End = true
 is_mark symbol item = false
-
--- a class of this IRI, by its number
-abbrev pub IsClassNamed : Option (List ℕ) → Known → Known → Option ℕ → Type 0
-IsClassNamed None known after found = (found ≡ None) × (after ≡ known)
-IsClassNamed (Some i) known after found = (found ≡ Some (number known.classes i)) × (after ≡ with_class known i)
-
-abbrev pub IsRoleIf : Bool → List ℕ → Known → Known → Option ℕ → Type 0
-IsRoleIf true i known after found = (found ≡ Some (number known.roles i)) × (after ≡ with_role known i)
-IsRoleIf false i known after found = (found ≡ None) × (after ≡ known)
-
--- a role of this IRI, by its number, if it may be one
-abbrev pub IsRoleNamed : Option (List ℕ) → Known → Known → Option ℕ → Type 0
-IsRoleNamed None known after found = (found ≡ None) × (after ≡ known)
-IsRoleNamed (Some i) known after found = IsRoleIf (is_role i) i known after found
 
 -- the symbol leaves what is known as it is
 abbrev pub is_plain : Symbol → Bool

@@ -1,38 +1,22 @@
 -- What the calls of a reader tell of the bytes that it was fed.
-use Rattle.std.specs.Prelude.{◌≡◌, ◌≢◌, ℕ, ◌+◌, ◌≤◌, false, IsTrue, List, [], ◌∷◌, length, take, Option, Some, None, Result, Ok, Err, All, AllPairs}
-use Rattle.std.specs.List.{list_all, fold}
+use Rattle.std.specs.Prelude.{◌≡◌, ℕ, ◌≤◌, false, List, [], ◌∷◌, length, Option, Some, None, Result, Ok, Err, All}
+use Rattle.std.specs.List.{fold}
 use Rattle.cd_base.specs.Iri.{IsIri}
 use Rattle.cd_meaning.specs.declared.document.Document.{Document}
-use Rattle.cd_meaning.specs.Iri.{reserved_classes}
-use Rattle.cd_meaning.specs.Nodes.{nodes}
-use Rattle.cd_meaning.specs.Numbered.{has_numbers_below}
 use Rattle.cd_lex.specs.declared.token.Token.{Token}
 use Rattle.cd_lex.specs.Lexing.{IsLexing}
-use Rattle.cd_grammar.specs.declared.cause.Cause.{Cause}
-use Rattle.cd_grammar.specs.declared.item.Item.{Item}
-use Rattle.cd_grammar.specs.declared.known.Known.{Known}
+use Rattle.cd_syntax.specs.declared.cause.Cause.{Cause}
+use Rattle.cd_syntax.specs.declared.item.Item.{Item}
 use Rattle.cd_grammar.specs.declared.parser.Parser.{Parser}
 use Rattle.cd_grammar.specs.declared.reader.Reader.{Reader}
-use Rattle.cd_grammar.specs.declared.refusal.Refusal.{Refusal}
+use Rattle.cd_syntax.specs.declared.refusal.Refusal.{Refusal}
 use Rattle.cd_grammar.specs.declared.symbol.Symbol.{Symbol}
 use Rattle.cd_grammar.specs.Causes.{cause_of, Standing, Going, Stopped, stand_after}
-use Rattle.cd_grammar.specs.Grammar.{IsRead, IsOnly, begun}
+use Rattle.cd_syntax.specs.Bounds.{IsWithin}
+use Rattle.cd_syntax.specs.Grammar.{IsRead, IsOnly, begun}
 use Rattle.cd_grammar.specs.Machine.{State}
-use Rattle.cd_grammar.specs.Items.{placed_items}
-use Rattle.cd_grammar.specs.Refusal.{IsFaulty, IsUnread}
-
--- ---- what a document keeps to
-
--- it has at most n nodes, n roles, and n classes beside owl:Thing and owl:Nothing
-abbrev pub IsWithin : ℕ → Document → Type 0
-IsWithin n document = (nodes document.axioms ≤ n) × (length document.classes ≤ n + 2) × (length document.roles ≤ n)
-
--- what is known can be a document
-pub record IsSound (known : Known) : Type 0 where
-  pub numbered : IsTrue (list_all (has_numbers_below (length known.classes) (length known.roles)) known.axioms)
-  pub reserved : take 2 known.classes ≡ reserved_classes
-  pub distinct_classes : AllPairs (λ a b. a ≢ b) known.classes
-  pub distinct_roles : AllPairs (λ a b. a ≢ b) known.roles
+use Rattle.cd_syntax.specs.Items.{placed_items}
+use Rattle.cd_syntax.specs.Refusal.{IsFaulty, IsUnread}
 
 -- ---- what a reader means
 

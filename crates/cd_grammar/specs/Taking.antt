@@ -11,7 +11,7 @@ use Rattle.cd_lex.specs.Tokens.{HasItems, Ending, AtEnd, AtBad}
 use Rattle.cd_grammar.specs.declared.parser.Parser.{Parser}
 use Rattle.cd_grammar.specs.declared.reader.Reader.{Reader}
 use Rattle.cd_grammar.specs.Causes.{stand_after}
-use Rattle.cd_grammar.specs.Items.{PlacedItem, placed_items, last_item, all_of}
+use Rattle.cd_syntax.specs.Items.{PlacedItem, placed_items, last_item, all_of}
 use Rattle.cd_grammar.specs.Reading.{IsReading, standing, started}
 
 -- the lexer was fed these bytes in all and gave these tokens, and the parser took them

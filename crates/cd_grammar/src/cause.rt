@@ -1,46 +1,16 @@
 //! Why an item can't stand at its place.
 ghost use Rattle.std.specs.Prelude.{◌≡◌, ◌∷◌, [], List, IfOk};
 ghost use Rattle.cd_grammar.specs.Causes.{refused, refused_role, is_unknown, is_prefix_iri, is_over, wants_role, wants_role_next, first_of_causes};
-ghost use Rattle.cd_grammar.specs.Refusal.{refusal_at};
-ghost use Rattle.cd_grammar.specs.Machine.{iri_of, bare};
-ghost use Rattle.cd_grammar.specs.Grammar.{nesting};
-ghost use Rattle.cd_grammar.specs.declared.words.Form.{Form};
+ghost use Rattle.cd_syntax.specs.Named.{iri_of};
+ghost use Rattle.cd_grammar.specs.Machine.{bare};
+ghost use Rattle.cd_syntax.specs.Grammar.{nesting};
+ghost use Rattle.cd_syntax.specs.declared.words.Form.{Form};
 
-use crate::item::Item;
-use crate::known::Known;
-use crate::operands::{has_class_head, wants_head, wants_part};
-use crate::refusal::Refusal;
 use crate::symbol::{Frame, Symbol};
-use crate::words::{AxiomForm, Form, Key};
 use cd_base::Memory;
 use cd_names::ExpandFault;
+use cd_syntax::{AxiomForm, Cause, Form, Item, Key, Known, has_class_head, wants_head, wants_part};
 use std::alloc::Global;
-
-/// Why an item can't stand at its place.
-#[derive(Clone, Copy, Debug, PartialEq, Eq)]
-pub enum Cause {
-    /// A construct that is refused, by its number.
-    Construct(u8),
-    /// A prefix that isn't declared, or is declared with another IRI.
-    Prefix,
-    /// Too many annotations or constructors stand inside each other.
-    Depth,
-    Syntax,
-}
-
-impl Cause {
-    /// The refusal of a text whose item at this place is the first fault.
-    pub(crate) fn at(self, place: u64) -> Refusal
-        ensures { result ≡ refusal_at self place }
-    {
-        match self {
-            Cause::Construct(number) => Refusal::Construct(number, place),
-            Cause::Prefix => Refusal::Prefix(place),
-            Cause::Depth => Refusal::Depth(place),
-            Cause::Syntax => Refusal::Syntax(place),
-        }
-    }
-}
 
 /// Whether behind these operands a role may stand.
 fn wants_role_next(frame: &Frame) -> bool

@@ -4,17 +4,18 @@ ghost use Rattle.std.specs.Io.KnownBytes.{IsAtEnd};
 ghost use Rattle.cd_base.specs.Iri.{IsIri};
 ghost use Rattle.cd_io.specs.Causes.{Rose};
 ghost use Rattle.cd_io.specs.Streams.{LosesAtMost};
-ghost use Rattle.cd_grammar.specs.Grammar.{IsRead, IsOnly};
-ghost use Rattle.cd_grammar.specs.Reading.{IsReading, IsWithin};
-ghost use Rattle.cd_grammar.specs.Refusal.{IsRefused};
+ghost use Rattle.cd_syntax.specs.Grammar.{IsRead, IsOnly};
+ghost use Rattle.cd_syntax.specs.Bounds.{IsWithin};
+ghost use Rattle.cd_grammar.specs.Reading.{IsReading};
+ghost use Rattle.cd_syntax.specs.Refusal.{IsRefused};
 ghost use Rattle.cd_grammar.specs.Taking.{IsFedFrom};
-ghost use Rattle.cd_grammar.specs.declared.refusal.Refusal.{Refusal};
+ghost use Rattle.cd_syntax.specs.declared.refusal.Refusal.{Refusal};
 
 use crate::reader::Reader;
-use crate::refusal::Refusal;
 use cd_base::{Limits, Memory};
 use cd_io::Source;
 use cd_meaning::Document;
+use cd_syntax::Refusal;
 use std::alloc::Global;
 use thiserror::Error;
 

@@ -1,6 +1,6 @@
-//! Laws of the definitions, each on the contract of a function that does nothing.
-ghost use Rattle.cd_grammar.specs.Laws.{HasNoFaultWhereRead, HasOneFault, HasOneReading, IsReadOrFaulty, KnownIsSound};
-ghost use Rattle.cd_grammar.specs.WorkedTexts.{WorkedDocuments, WorkedFaults};
+//! Laws of the definitions that the parser shows, each on the contract of a function that does nothing.
+ghost use Rattle.cd_syntax.specs.Laws.{HasOneFault, HasOneReading, IsReadOrFaulty, KnownIsSound};
+ghost use Rattle.cd_syntax.specs.WorkedTexts.{WorkedDocuments, WorkedFaults};
 
 /// A text is one document at most.
 pub fn has_one_reading()
@@ -16,11 +16,6 @@ pub fn known_is_sound()
 /// A text has one first fault at most, with one kind and one place.
 pub fn has_one_fault()
     ensures { HasOneFault }
-{}
-
-/// A text that is a document has no fault.
-pub fn has_no_fault_where_read()
-    ensures { HasNoFaultWhereRead }
 {}
 
 /// A text of fewer than 2^31 bytes is a document or has a first fault.

@@ -1,17 +1,15 @@
 //! A parser that takes one item after another, up to the first fault.
 ghost use Rattle.std.specs.Prelude.{◌≡◌, ◌<◌, ◌≤◌, ◌+◌, ◌-◌, ◌^◌, length, IfOk, OnOk};
 ghost use Rattle.cd_grammar.specs.Causes.{stand_after};
-ghost use Rattle.cd_grammar.specs.Grammar.{nesting};
+ghost use Rattle.cd_syntax.specs.Grammar.{nesting};
 ghost use Rattle.cd_grammar.specs.Machine.{step};
 ghost use Rattle.cd_grammar.specs.Reading.{standing, started, IsTried};
 
-use crate::cause::{Cause, find_cause, is_over, is_prefix_iri, wants_role};
-use crate::item::Item;
-use crate::known::Known;
+use crate::cause::{find_cause, is_over, is_prefix_iri, wants_role};
 use crate::places::advance;
-use crate::refusal::Refusal;
 use crate::symbol::{Stack, Symbol};
 use cd_base::Memory;
+use cd_syntax::{Cause, Item, Known, Refusal};
 use std::alloc::Global;
 
 /// What is known and wanted behind the items that came, or the first fault among them.

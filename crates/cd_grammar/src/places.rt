@@ -1,104 +1,27 @@
 //! What may stand at each place of a document, one item after another.
 ghost use Rattle.std.specs.Prelude.{◌≡◌, ◌∷◌, [], ◌<◌, ◌-◌, ◌^◌, true, length, is_some, IfOk};
 ghost use Rattle.std.specs.Str.{bytes_eq};
-ghost use Rattle.cd_grammar.specs.Grammar.{nesting, top_role, bottom_role};
-ghost use Rattle.cd_grammar.specs.Machine.{IsTaken, IsClassNamed, IsRoleNamed, iri_of, is_subject, is_role, is_mark, is_plain, noted, notes_taken, axioms_taken, ontology_iri_taken, given, closed, deeper, head_taken, operand_taken, inside_taken, wants_head_next, wants_part_next, advance};
-ghost use Rattle.cd_grammar.specs.Operands.{made_of};
-ghost use Rattle.cd_grammar.specs.declared.item.Item.{Item};
+ghost use Rattle.cd_syntax.specs.Grammar.{nesting};
+ghost use Rattle.cd_syntax.specs.Named.{iri_of, is_subject};
+ghost use Rattle.cd_grammar.specs.Machine.{IsTaken, is_mark, is_plain, noted, notes_taken, axioms_taken, ontology_iri_taken, given, closed, deeper, head_taken, operand_taken, inside_taken, wants_head_next, wants_part_next, advance};
+ghost use Rattle.cd_syntax.specs.Operands.{made_of};
+ghost use Rattle.cd_syntax.specs.declared.item.Item.{Item};
 ghost use Rattle.cd_grammar.specs.declared.symbol.Symbol.{Symbol};
-ghost use Rattle.cd_grammar.specs.declared.words.Form.{Form};
-ghost use Rattle.cd_grammar.specs.declared.words.Key.{Key};
+ghost use Rattle.cd_syntax.specs.declared.words.Form.{Form};
+ghost use Rattle.cd_syntax.specs.declared.words.Key.{Key};
 
-use crate::item::Item;
-use crate::known::Known;
-use crate::operands::{Made, has_class_head, make, wants_head, wants_part};
 use crate::symbol::{Frame, Stack, Symbol};
-use crate::words::{ExprForm, Form, Key};
 use cd_base::{Memory, Seq};
 use cd_meaning::Expr;
 use cd_names::{DeclareFault, ExpandFault};
+use cd_syntax::{
+    ExprForm, Form, Item, Key, Known, Made, class_of, has_class_head, is_iri, is_subject, make,
+    role_of, wants_head, wants_part,
+};
 use std::alloc::Global;
 
 /// At most so many annotations, and so many constructors, stand inside each other.
 const NESTING: u64 = 256;
-
-/// Whether the item stands for an IRI. One look-up.
-fn is_iri(known: &Known, item: &Item) -> bool
-    ensures { result ≡ is_some (iri_of known.now item.now) }
-{
-    match item {
-        Item::FullIri(_) => true,
-        Item::Short(prefix, _) => known.prefixes.contains(prefix.items()),
-        _ => false,
-    }
-}
-
-/// Whether the item stands for an IRI, or for an anonymous individual with a name. One look-up.
-fn is_subject(known: &Known, item: &Item) -> bool
-    ensures { result ≡ is_subject known.now item.now }
-{
-    match item {
-        Item::Node(label) => !label.items().is_empty(),
-        _ => is_iri(known, item),
-    }
-}
-
-/// The class that the item stands for, by its number. Two look-ups.
-fn class(alloc: Global, known: &mut Known, item: &Item) -> Result<Option<u32>, Memory>
-    requires { length known.old.classes < 2 ^ 32 - 1 }
-    ensures { IfOk result (λ found. IsClassNamed (iri_of known.old item.now) known.old known.new found) }
-{
-    match item {
-        Item::FullIri(iri) => Ok(Some(known.classes.add(iri.items())?)),
-        Item::Short(prefix, local) => match known
-            .prefixes
-            .expand(alloc, prefix.items(), local.items())
-        {
-            Ok(iri) => Ok(Some(known.classes.add(iri.items())?)),
-            Err(ExpandFault::Unknown) => Ok(None),
-            Err(ExpandFault::Memory) => Err(Memory),
-        },
-        _ => Ok(None),
-    }
-}
-
-/// The role that the item stands for, by its number, if it may be one. Two look-ups.
-fn role(alloc: Global, known: &mut Known, item: &Item) -> Result<Option<u32>, Memory>
-    requires { length known.old.roles < 2 ^ 32 - 1 }
-    ensures { IfOk result (λ found. IsRoleNamed (iri_of known.old item.now) known.old known.new found) }
-{
-    match item {
-        Item::FullIri(iri) => role_of(known, iri.items()),
-        Item::Short(prefix, local) => match known
-            .prefixes
-            .expand(alloc, prefix.items(), local.items())
-        {
-            Ok(iri) => role_of(known, iri.items()),
-            Err(ExpandFault::Unknown) => Ok(None),
-            Err(ExpandFault::Memory) => Err(Memory),
-        },
-        _ => Ok(None),
-    }
-}
-
-/// The role of this IRI, by its number, if it may be one. One look-up.
-fn role_of(known: &mut Known, iri: &[u8]) -> Result<Option<u32>, Memory>
-    requires { length known.old.roles < 2 ^ 32 - 1 }
-    ensures { IfOk result (λ found. IsRoleNamed (Some iri.now) known.old known.new found) }
-{
-    if !is_role(iri) {
-        return Ok(None);
-    }
-    Ok(Some(known.roles.add(iri)?))
-}
-
-/// Whether a role may have this IRI. Constant time.
-fn is_role(iri: &[u8]) -> bool
-    ensures { result ≡ is_role iri.now }
-{
-    iri != b"http://www.w3.org/2002/07/owl#topObjectProperty".as_slice()
-        && iri != b"http://www.w3.org/2002/07/owl#bottomObjectProperty".as_slice()
-}
 
 /// Takes the word of an annotation, if so many more may stand inside each other.
 fn noted(known: &Known, stack: &mut Stack, nesting: u64) -> Result<bool, Memory>
@@ -362,9 +285,9 @@ fn head(
     ensures { IfOk result (λ ok. wants_head_next frame ≡ true → IsTaken (operand_taken known.old frame stack.old (iri_of known.old item.now)) known.old known.new stack.new ok) }
 {
     let found = if has_class_head(frame.form) {
-        class(alloc, known, item)?
+        class_of(alloc, known, item)?
     } else {
-        role(alloc, known, item)?
+        role_of(alloc, known, item)?
     };
     let Some(number) = found else {
         return Ok(false);
@@ -394,7 +317,7 @@ fn operand(
     if !wants_part(frame.form, heads, parts) {
         return Ok(false);
     }
-    let Some(number) = class(alloc, known, item)? else {
+    let Some(number) = class_of(alloc, known, item)? else {
         return Ok(false);
     };
     frame.parts.push(Expr::Name(number))?;
@@ -478,7 +401,7 @@ pub(crate) fn advance(
     ensures { IfOk result (λ ok. IsTaken (advance nesting known.old symbol item.now stack.old) known.old known.new stack.new ok) }
 {
     match symbol {
-        Symbol::Class => Ok(class(alloc, known, item)?.is_some()),
+        Symbol::Class => Ok(class_of(alloc, known, item)?.is_some()),
         Symbol::PrefixIri(prefix) => prefix_iri(alloc, known, stack, &prefix, item),
         Symbol::AxiomIn(form) => {
             if let Item::Word(Key::Annotation) = item {

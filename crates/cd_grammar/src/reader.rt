@@ -5,18 +5,17 @@ ghost use Rattle.std.specs.List.{fold};
 ghost use Rattle.cd_lex.specs.declared.token.Token.{Token};
 ghost use Rattle.cd_lex.specs.Lexing.{IsLexing};
 ghost use Rattle.cd_grammar.specs.Causes.{stand_after};
-ghost use Rattle.cd_grammar.specs.Grammar.{IsOf};
-ghost use Rattle.cd_grammar.specs.Items.{PlacedItem};
-ghost use Rattle.cd_grammar.specs.Reading.{IsReading, IsFinished, IsSound, standing, started};
+ghost use Rattle.cd_syntax.specs.Grammar.{IsOf};
+ghost use Rattle.cd_syntax.specs.Items.{PlacedItem};
+ghost use Rattle.cd_syntax.specs.Bounds.{IsSound};
+ghost use Rattle.cd_grammar.specs.Reading.{IsReading, IsFinished, standing, started};
 ghost use Rattle.cd_grammar.specs.Taking.{Takes, TakesAll, TakesText, IsLast};
 
-use crate::item::{Item, item_of};
-use crate::known::Known;
 use crate::parser::Parser;
-use crate::refusal::Refusal;
 use cd_base::{Memory, Seq};
 use cd_lex::{LexFault, Lexer};
 use cd_meaning::Document;
+use cd_syntax::{Item, Known, Refusal, item_of};
 use std::alloc::Global;
 
 /// A text that comes in pieces, as far as it came.

@@ -2,9 +2,9 @@
 ghost use Rattle.std.specs.Prelude.{◌≡◌, ◌∷◌, [], OnOk, MatchOption};
 ghost use Rattle.cd_grammar.specs.Machine.{bare};
 
-use crate::words::{AxiomForm, Form};
 use cd_base::{Memory, Seq};
 use cd_meaning::Expr;
+use cd_syntax::{AxiomForm, Form};
 use std::alloc::Global;
 use std::marker::Model;
 

@@ -10,7 +10,7 @@ use Rattle.cd_meaning.specs.Entailment.{Entails}
 use Rattle.cd_meaning.specs.Text.{text}
 use Rattle.cd_meaning.proofs.FiniteModels.{finite_is_enough}
 use Rattle.cd_meaning.proofs.OneText.{one_answer}
-use Rattle.cd_grammar.specs.Grammar.{IsRead, IsSame}
+use Rattle.cd_syntax.specs.Grammar.{IsRead, IsSame}
 use Rattle.cd_grammar.proofs.OneReading.{one_reading}
 use Rattle.cd_top.specs.Headline.{IsAnswered, HasOneText, IsBelowOver}
 use Rattle.cd_top.specs.Restated.{EntailsNamed}

@@ -2,11 +2,11 @@
 use Rattle.std.proofs.Common.{◌≡◌, ◌⊎◌, ℕ, List, refl, sym, ap, ◌∙◌, inl, inr, arith}
 use Rattle.std.specs.Prelude.{Option, Some, None, IfSome}
 use Rattle.cd_base.specs.declared.limit_kind.LimitKind.{LimitKind}
-use Rattle.cd_grammar.specs.declared.refusal.Refusal.{Refusal}
-use Rattle.cd_grammar.specs.declared.refusal.Refusal.TheVariants.{Syntax, Construct, Prefix, Depth, TooLong}
+use Rattle.cd_syntax.specs.declared.refusal.Refusal.{Refusal}
+use Rattle.cd_syntax.specs.declared.refusal.Refusal.TheVariants.{Syntax, Construct, Prefix, Depth, TooLong}
 use Rattle.cd_meaning.specs.declared.document.Document.{Document}
-use Rattle.cd_grammar.specs.Grammar.{IsRead}
-use Rattle.cd_grammar.specs.Refusal.{IsRefused}
+use Rattle.cd_syntax.specs.Grammar.{IsRead}
+use Rattle.cd_syntax.specs.Refusal.{IsRefused}
 use Rattle.cd_top.specs.declared.status.Status.{Status}
 use Rattle.cd_top.specs.declared.status.Status.TheVariants.{Done, Refused, Usage, Limit, ReadFault, WriteFault, Memory}
 use Rattle.cd_grammar.proofs.OneReading.{one_refusal}

@@ -26,8 +26,8 @@ use Rattle.std.specs.Prelude.{codes}
 use Rattle.cd_base.specs.Iri.{IsIri}
 use Rattle.cd_taxonomy.specs.Relation.{IsSubsumption}
 use Rattle.cd_taxonomy.specs.ReadBack.{AreNames}
-use Rattle.cd_grammar.specs.declared.known.Known.{Known}
-use Rattle.cd_grammar.specs.Grammar.{begun, Text, Leads, nesting, IsDocument}
+use Rattle.cd_syntax.specs.declared.known.Known.{Known}
+use Rattle.cd_syntax.specs.Grammar.{begun, Text, Leads, nesting, IsDocument}
 use Rattle.cd_top.specs.Restated.{EntailsNamed, SaysTheSame, AnswerIsRestated}
 use Rattle.cd_grammar.proofs.Finishing.{known_is_sound}
 use Rattle.cd_top.proofs.SameAnswer.{subsumption, also_answer}

@@ -31,7 +31,7 @@ use Rattle.cd_taxonomy.proofs.OneRepresentative.{in_representatives}
 use Rattle.cd_taxonomy.proofs.Ranges.{range_contains, range_within}
 use Rattle.cd_taxonomy.proofs.ReadBackLines.{contains_flat_map, flat_map_contains}
 use Rattle.cd_taxonomy.proofs.ReadBackSound.{two_names, in_members, in_parents, proper_represents}
-use Rattle.cd_grammar.proofs.Added.{distinct_added}
+use Rattle.cd_syntax.proofs.Added.{distinct_added}
 use Rattle.cd_top.proofs.RestatedLines.{Statement, Same, Sub, operands, of_group, statements, HaveIris}
 use Rattle.cd_top.proofs.RestatedNames.{at_start, none_alike, all_added, stays_all, there_all, add_all, front_itself, number_inside, number_names, number_is, same_number}
 use Rattle.cd_top.proofs.RestatedTokens.{operand_names, classes_after, front_after, renumbered, named, axiom_of}

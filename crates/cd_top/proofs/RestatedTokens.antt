@@ -12,8 +12,8 @@ use Rattle.cd_names.specs.Names.{add_name, number}
 use Rattle.cd_names.specs.Prefixes.{standard}
 use Rattle.cd_lex.specs.declared.token.Kind.{Kind}
 use Rattle.cd_lex.specs.declared.token.Kind.TheVariants.{Opening, Closing, Word}
-use Rattle.cd_grammar.specs.declared.known.Known.{Known}
-use Rattle.cd_grammar.specs.Grammar.{begun, with_class, with_axiom, Wanted, Exact, ClassOf, ClosingOf, Text, OntologyIri, Notes, Axioms, AxiomIn, ExprOf, axiom_form, opened, Leads}
+use Rattle.cd_syntax.specs.declared.known.Known.{Known}
+use Rattle.cd_syntax.specs.Grammar.{begun, with_class, with_axiom, Wanted, Exact, ClassOf, ClosingOf, Text, OntologyIri, Notes, Axioms, AxiomIn, ExprOf, axiom_form, opened, Leads}
 use Rattle.cd_top.proofs.RestatedLines.{Statement, Same, Sub, operands, word_of, operand_kinds, kinds_of}
 use Rattle.cd_top.proofs.RestatedNames.{add_all, IsFront, front_all, number_stays}
 

@@ -2,7 +2,7 @@
 use Rattle.std.specs.Prelude.{◌≡◌, ◌↔◌, ℕ, ◌≤◌, List, [], length, Option, Some, slice_get}
 use Rattle.std.specs.Io.KnownBytes.{Appends}
 use Rattle.cd_io.specs.Streams.{AppendsFront}
-use Rattle.cd_grammar.specs.Grammar.{IsRead}
+use Rattle.cd_syntax.specs.Grammar.{IsRead}
 use Rattle.cd_meaning.specs.declared.document.Document.{Document}
 use Rattle.cd_meaning.specs.AnyDomain.{Elements, EntailsOver}
 use Rattle.cd_meaning.specs.Answer.{IsAnswer}

@@ -3,7 +3,7 @@ use Rattle.std.specs.Prelude.{◌≡◌, ℕ, ◌↔◌, List, Contains, Some, s
 use Rattle.cd_meaning.specs.declared.document.Document.{Document}
 use Rattle.cd_meaning.specs.Answer.{IsAnswer}
 use Rattle.cd_meaning.specs.Entailment.{Entails}
-use Rattle.cd_grammar.specs.Grammar.{IsRead}
+use Rattle.cd_syntax.specs.Grammar.{IsRead}
 
 -- these are the names of two classes of the document, and it entails that the first is below the second
 abbrev pub EntailsNamed : Document → List ℕ → List ℕ → Type 0

@@ -3,9 +3,9 @@ use Rattle.std.specs.Prelude.{ℕ, Bool, true, false, ◌-◌, ◌⊎◌, List, 
 use Rattle.std.specs.Io.KnownBytes.{Appends}
 use Rattle.cd_io.specs.Causes.{Rose}
 use Rattle.cd_io.specs.Streams.{AppendsFront}
-use Rattle.cd_grammar.specs.declared.refusal.Refusal.{Refusal}
-use Rattle.cd_grammar.specs.declared.refusal.Refusal.TheVariants.{Syntax, Construct, Prefix, Depth, TooLong}
-use Rattle.cd_grammar.specs.Constructs.{word_of}
+use Rattle.cd_syntax.specs.declared.refusal.Refusal.{Refusal}
+use Rattle.cd_syntax.specs.declared.refusal.Refusal.TheVariants.{Syntax, Construct, Prefix, Depth, TooLong}
+use Rattle.cd_syntax.specs.Constructs.{word_of}
 use Rattle.cd_words.specs.declared.request.AskFault.{AskFault}
 use Rattle.cd_top.specs.declared.status.Status.{Status}
 use Rattle.cd_top.specs.declared.status.Status.TheVariants.{Done, Refused, Usage, Limit, ReadFault, WriteFault, Memory}

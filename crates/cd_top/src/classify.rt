@@ -4,8 +4,8 @@ ghost use Rattle.std.specs.Io.KnownBytes.{Appends};
 ghost use Rattle.cd_io.specs.Causes.{Rose, HasCause};
 ghost use Rattle.cd_io.specs.Streams.{AppendsFront, LosesAtMost};
 ghost use Rattle.cd_top.specs.Headline.{IsAnswered, IsClassified, IsLimited, IsPartlyAnswered};
-ghost use Rattle.cd_grammar.specs.Refusal.{IsRefused};
-ghost use Rattle.cd_grammar.specs.declared.refusal.Refusal.{Refusal};
+ghost use Rattle.cd_syntax.specs.Refusal.{IsRefused};
+ghost use Rattle.cd_syntax.specs.declared.refusal.Refusal.{Refusal};
 ghost use Rattle.cd_base.specs.declared.limit_kind.LimitKind.{LimitKind};
 ghost use Rattle.cd_top.specs.Status.{IsEarly};
 
@@ -13,8 +13,9 @@ use crate::answer::answer_to;
 use crate::answers::Halt;
 use crate::status::Status;
 use cd_base::{LimitKind, Limits};
-use cd_grammar::{ReadRefusal, Refusal, read_document};
+use cd_grammar::{ReadRefusal, read_document};
 use cd_io::{Sink, Source, WriteFault, write_all};
+use cd_syntax::Refusal;
 use std::alloc::Global;
 use thiserror::Error;
 

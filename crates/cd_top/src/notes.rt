@@ -4,12 +4,12 @@ ghost use Rattle.std.specs.Io.KnownBytes.{Appends};
 ghost use Rattle.cd_io.specs.Causes.{HasCause};
 ghost use Rattle.cd_io.specs.Streams.{AppendsFront};
 ghost use Rattle.cd_top.specs.Status.{IsNoted, has_fixed_line, line_of, limit_line, refusal_line, construct_line, word_or_none, numbered};
-ghost use Rattle.cd_grammar.specs.Constructs.{word_of};
+ghost use Rattle.cd_syntax.specs.Constructs.{word_of};
 
 use crate::status::Status;
 use cd_base::LimitKind;
-use cd_grammar::{Refusal, word_text};
 use cd_io::{Sink, WriteFault, write_all};
+use cd_syntax::{Refusal, word_text};
 use itoa::Buffer;
 
 /// Puts the status's line on the notes, as far as they take it. Takes no memory. At most a write for each byte of the line.

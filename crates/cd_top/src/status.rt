@@ -3,7 +3,7 @@ ghost use Rattle.std.specs.Prelude.{◌≡◌};
 ghost use Rattle.cd_top.specs.Status.{code_of};
 
 use cd_base::LimitKind;
-use cd_grammar::Refusal;
+use cd_syntax::Refusal;
 
 /// How a run ended. Each status but `Done` puts one line on the notes.
 #[derive(Clone, Copy, Debug, PartialEq, Eq)]

@@ -1,7 +1,7 @@
 //! The trial command: the summary of a generated document.
 ghost use Rattle.std.specs.Prelude.{◌≡◌, ◌≤◌, ◌⊎◌, true, false, ℕ, Err, IfOk};
 ghost use Rattle.cd_base.specs.declared.limit_kind.LimitKind.{LimitKind};
-ghost use Rattle.cd_grammar.specs.declared.refusal.Refusal.{Refusal};
+ghost use Rattle.cd_syntax.specs.declared.refusal.Refusal.{Refusal};
 ghost use Rattle.cd_io.specs.Causes.{Rose};
 ghost use Rattle.cd_taxonomy.specs.Relation.{relation};
 ghost use Rattle.cd_taxonomy.specs.Summary.{summary_of, summary_text};

@@ -3,7 +3,7 @@ use Rattle.std.proofs.lemmas.Option.{IfSome_then}
 use Rattle.std.proofs.lemmas.Result.{err_from_is_err_and}
 use Rattle.std.specs.Prelude.{Result, Ok, Err}
 use Rattle.cd_meaning.specs.declared.document.Document.{Document}
-use Rattle.cd_grammar.specs.declared.refusal.Refusal.{Refusal}
+use Rattle.cd_syntax.specs.declared.refusal.Refusal.{Refusal}
 use Rattle.cd_grammar.specs.Reading.{IsFinished}
 use Rattle.cd_grammar.proofs.Inputs.{whole, at_least, of_any, same_error, too_long, refused_whole, read_whole, unless}
 use Rattle.cd_grammar.proofs.input.read_document.Goals as goal

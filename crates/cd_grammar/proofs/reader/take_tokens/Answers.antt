@@ -2,7 +2,7 @@ use Rattle.std.proofs.Common.{Bool, sym, ap, subst, ◌∙◌}
 use Rattle.std.specs.Prelude.{Option}
 use Rattle.cd_lex.specs.declared.token.LexFault.{LexFault}
 use Rattle.cd_lex.specs.Lexing.{AreAll}
-use Rattle.cd_grammar.specs.declared.item.Item.{Item}
+use Rattle.cd_syntax.specs.declared.item.Item.{Item}
 use Rattle.cd_grammar.specs.Causes.{stand_after}
 use Rattle.cd_grammar.specs.Reading.{standing}
 use Rattle.cd_grammar.proofs.Taking.{takes_more, took_few}

@@ -1,8 +1,8 @@
 use Rattle.std.proofs.Common.{◌≡◌, ◌⊎◌, ◌+◌, ℕ, ap, subst, sym, ◌∙◌, inr, map, string_bytes, Err}
 use Rattle.std.specs.Prelude.{IfSome}
 use Rattle.cd_base.specs.declared.limit_kind.LimitKind.{LimitKind}
-use Rattle.cd_grammar.specs.declared.refusal.Refusal.{Refusal}
-use Rattle.cd_grammar.specs.Refusal.{IsRefused}
+use Rattle.cd_syntax.specs.declared.refusal.Refusal.{Refusal}
+use Rattle.cd_syntax.specs.Refusal.{IsRefused}
 use Rattle.cd_io.specs.Causes.{Rose}
 use Rattle.cd_io.specs.Streams.{LosesAtMost}
 use Rattle.cd_words.specs.Form.{Asks, IsOfForm}

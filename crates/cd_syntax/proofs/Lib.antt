@@ -1,0 +1,15 @@
+pub mod Added
+pub mod Counts
+pub mod Cuts
+pub mod Derivation
+pub mod FaultsOfTokens
+pub mod ItemFault
+pub mod ItemGrammar
+pub mod Items
+pub mod ItemsOfTokens
+pub mod Keys
+pub mod LinesOfTokens
+pub mod NoFault
+pub mod OperandNodes
+pub mod OperandNumbers
+pub mod TokensOfItems

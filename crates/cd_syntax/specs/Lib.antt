@@ -1,0 +1,11 @@
+pub mod Bounds
+pub mod Constructs
+pub mod Fault
+pub mod Grammar
+pub mod Items
+pub mod Laws
+pub mod Named
+pub mod Operands
+pub mod Refusal
+pub mod Words
+pub mod WorkedTexts
