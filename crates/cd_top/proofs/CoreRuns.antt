@@ -4,15 +4,15 @@ use Rattle.cd_base.specs.Keys.{plain, is_named}
 use Rattle.cd_base.specs.Lists.{Member}
 use Rattle.cd_base.specs.declared.normal.Normal.{Normal}
 use Rattle.cd_base.proofs.Members.{member_left}
-use Rattle.cd_actor.specs.Cells.{At, IsLawful, Had}
+use Rattle.cd_actor.specs.Cells.{At, IsLawful, AreAllLawful, Had}
+use Rattle.cd_actor.specs.Settled.{IsSettled, KeepsFamily}
 use Rattle.cd_clause.specs.Derivations.{from_named}
 use Rattle.cd_context.specs.declared.facts.Fact.TheVariants.{Start}
 use Rattle.cd_context.specs.declared.facts.Note.{Note}
 use Rattle.cd_cell.specs.Cells.{CellState, IsLawfulNote, meaning}
 use Rattle.cd_cell.proofs.Lookups.{has_from, member_of_state}
-use Rattle.cd_core.specs.Begin.{AreAllLawful, IsBegun as IsResumed}
-use Rattle.cd_core.specs.Ends.{IsEnd}
-use Rattle.cd_core.specs.State.{KeepsAll, KeepsFamily}
+use Rattle.cd_core.specs.Begin.{IsBegun as IsResumed}
+use Rattle.cd_core.specs.State.{KeepsAll}
 use Rattle.cd_top.specs.CoreRuns.{IsUnderWay, IsWorked}
 use Rattle.cd_top.specs.Saturation.{AreNew, place_for, start_of}
 use Rattle.cd_top.proofs.Runs.{of_family}
@@ -47,8 +47,8 @@ pub way_kept : (a : ℕ) (old new : List CellState × List (ℕ × Note) × Bool
 way_kept a old new w all family = record { normal = w.normal; named = w.named; family = family (1, w.normal) w.family; start = all (start_of 1 a) w.start }
 
 -- a run from there ends with cells where the class has its context
-pub way_ended : (a : ℕ) (core : List CellState × List (ℕ × Note) × Bool) (after : List CellState) (max_contexts max_facts : ℕ) → IsUnderWay a core → IsEnd meaning core.0 core.1 max_contexts max_facts after → IsWorked a after
-way_ended a core after mc mf w e =
+pub way_ended : (a : ℕ) (core : List CellState × List (ℕ × Note) × Bool) (after : List CellState) → IsUnderWay a core → IsSettled meaning core.0 core.1 after → IsWorked a after
+way_ended a core after w e =
     let h : Had meaning after (start_of 1 a) = e.had (start_of 1 a) w.start in
     let f = has_from h.0.contexts (record { key = plain a ∷ []; fact = Start }) h.2 in
     record {

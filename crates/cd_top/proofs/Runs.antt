@@ -3,14 +3,14 @@ use Rattle.std.proofs.Common.{◌≡◌, ℕ, zero, suc, ◌+◌, ◌<◌, ◌�
 use Rattle.cd_base.specs.Keys.{plain, is_named}
 use Rattle.cd_base.specs.Lists.{Member}
 use Rattle.cd_base.specs.declared.normal.Normal.{Normal}
-use Rattle.cd_actor.specs.Cells.{At, AreCells, AreOf, IsLawful, Had, total}
+use Rattle.cd_actor.specs.Cells.{At, AreCells, AreOf, IsLawful, AreAllLawful, Had, total}
+use Rattle.cd_actor.specs.Settled.{IsSettled, KeepsFamily}
 use Rattle.cd_base.proofs.Members.{member_left, member_right, member_cases}
 use Rattle.cd_base.specs.declared.answer.Answer.{Answer}
 use Rattle.std.proofs.lemmas.Bool.{cases_lt}
 use Rattle.cd_actor.proofs.At.{at_one}
 use Rattle.cd_cell.specs.Subsumers.{HasContext, IsSubsumers}
 use Rattle.cd_context.specs.declared.facts.Fact.TheVariants.{Start}
-use Rattle.cd_core.specs.State.{KeepsFamily}
 use Rattle.cd_clause.specs.Derivations.{from_named}
 use Rattle.cd_context.specs.declared.facts.Note.{Note}
 use Rattle.cd_cell.specs.Cells.{CellState, IsWhole, IsCell, IsLawfulNote, meaning}
@@ -18,8 +18,8 @@ use Rattle.cd_cell.specs.ClosedCells.{AreClosed}
 use Rattle.cd_cell.specs.Counts.{HasContexts, HasFacts}
 use Rattle.cd_cell.proofs.CountedCells.{cell_counts}
 use Rattle.cd_cell.proofs.Lookups.{has_from, member_of_state}
-use Rattle.cd_core.specs.Begin.{AreAllLawful, IsBegun as IsResumed}
-use Rattle.cd_core.specs.Ends.{IsEnd, IsStop}
+use Rattle.cd_core.specs.Begin.{IsBegun as IsResumed}
+use Rattle.cd_core.specs.Ends.{IsStop}
 use Rattle.cd_core.specs.declared.stops.Stop.{Stop}
 use Rattle.cd_core.specs.declared.stops.Stop.TheVariants.{Limit, Memory}
 use Rattle.cd_base.specs.declared.limit_kind.LimitKind.TheVariants.{Contexts, Facts}
@@ -87,8 +87,8 @@ module _ (n : Normal) (count : ℕ) (cells : List CellState) (are : AreNew n cou
   normal_after after keeps i c at = ap (λ (f : ℕ × Normal). f.1) (keeps (count, n) of_family i c at)
 
   -- where nothing is owed that is not had, the cells are closed
-  pub closed_after : (pending : List (ℕ × Note)) (max_contexts max_facts : ℕ) (after : List CellState) → IsEnd meaning cells pending max_contexts max_facts after → AreClosed n after
-  closed_after pending mc mf after e = record { are_cells = e.are_cells; normal = normal_after after e.family; had = e.owed }
+  pub closed_after : (pending : List (ℕ × Note)) (after : List CellState) → IsSettled meaning cells pending after → AreClosed n after
+  closed_after pending after e = record { are_cells = e.are_cells; normal = normal_after after e.family; had = e.owed }
 
   -- as many contexts as were counted, and as many facts
   pub contexts_after : (after : List CellState) (number : ℕ) → AreCells meaning after → KeepsFamily meaning cells after → number ≡ total meaning.contexts after → HasContexts n number
@@ -108,9 +108,9 @@ module _ (n : Normal) (count : ℕ) (cells : List CellState) (are : AreNew n cou
   stopped mc mf Memory h = tt
 
 -- where the start messages are had, the contexts of the classes have begun
-pub begun_after : (count : ℕ) (core after : List CellState) (pending : List (ℕ × Note)) (max_contexts max_facts : ℕ) → IsEnd meaning core pending max_contexts max_facts after
+pub begun_after : (count : ℕ) (core after : List CellState) (pending : List (ℕ × Note)) → IsSettled meaning core pending after
     → (a : ℕ) → Member (start_of count a) pending → IsBegun count after a
-begun_after count core after pending mc mf end_ a m =
+begun_after count core after pending end_ a m =
     let x = start_of count a in
     let h : Had meaning after x = end_.had x (inr m) in
     let f = has_from h.0.contexts (record { key = plain a ∷ []; fact = Start }) h.2 in

@@ -1,8 +1,8 @@
 use Rattle.std.proofs.Common.{sym, ◌∙◌, refl, inl, subst, arith}
 use Rattle.cd_actor.specs.Cells.{At}
 use Rattle.cd_actor.proofs.At.{at_index}
-use Rattle.cd_core.proofs.Begins.{IsJoining, join_drop, join_keep, join_end}
-use Rattle.cd_core.proofs.owed.put_not_had.Goals as goal
+use Rattle.cd_actor.proofs.Joining.{IsJoining, join_drop, join_keep, join_end}
+use Rattle.cd_actor.proofs.owed.put_not_had.Goals as goal
 
 pub bounds-cells-place : goal.bounds-cells-place
 bounds-cells-place g c = ((subst (λ q. IsJoining g.A.Actor.meaning c.args.cells.now c.args.messages c.args.pending.now q c.messages.pending) c.in-Some.ensures c.messages.invariant).lawful (c.in-Some.cell, c.in-Some.message) (inl refl)).0

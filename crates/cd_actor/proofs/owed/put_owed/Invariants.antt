@@ -1,7 +1,7 @@
 use Rattle.std.proofs.Common.{◌≡◌, ◌++◌, take}
 use Rattle.cd_actor.specs.Sends.{sent}
-use Rattle.cd_core.specs.Begin.{IsOwedInTurn}
-use Rattle.cd_core.proofs.owed.put_owed.Given as goal
+use Rattle.cd_actor.specs.Owed.{IsOwedInTurn}
+use Rattle.cd_actor.proofs.owed.put_owed.Given as goal
 
 abbrev pub invariant-cells : goal.invariant-cells
 invariant-cells g l = record {

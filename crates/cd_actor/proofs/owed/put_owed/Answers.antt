@@ -1,13 +1,14 @@
-use Rattle.std.proofs.Common.{◌≡◌, subst, sym}
+use Rattle.std.proofs.Common.{◌≡◌, ◌≤◌, length, take, subst, sym, arith}
+use Rattle.std.proofs.lemmas.Grind.{common_steps}
 use Rattle.cd_base.specs.Lists.{Member}
 use Rattle.cd_actor.specs.Sends.{sent}
 use Rattle.cd_actor.specs.Cells.{At}
-use Rattle.cd_core.specs.Begin.{IsOwedOf}
+use Rattle.cd_actor.specs.Owed.{IsOwedOf, IsOwedInTurn}
 use Rattle.cd_actor.proofs.At.{at_index}
-use Rattle.cd_actor.proofs.Owed.{owed_in_family}
-use Rattle.cd_core.proofs.Lists.{sent_first, follows_more}
-use Rattle.cd_core.proofs.Begins.{owed_lawful, owed_of, in_turn_next}
-use Rattle.cd_core.proofs.owed.put_owed.Goals as goal
+use Rattle.cd_actor.proofs.Family.{owed_in_family}
+use Rattle.cd_actor.proofs.Sent.{sent_first, follows_more}
+use Rattle.cd_actor.proofs.Joining.{owed_lawful, owed_of, in_turn_next, in_turn_lawful, in_turn_covered}
+use Rattle.cd_actor.proofs.owed.put_owed.Goals as goal
 
 pub put_not_had-requires-clause-lawful : goal.put_not_had-requires-clause-lawful
 put_not_had-requires-clause-lawful g c x h =
@@ -32,3 +33,19 @@ cells-preserved g c =
       follows = follows_more c.args.pending.now c.cells.pending c.put_not_had.new.pending (sent c.cells.pending c.put_not_had.new.pending) f e.follows;
       owed = in_turn_next m cs c.cells.cell-index c.cell-item.result c.args.pending.now c.cells.pending c.put_not_had.new.pending at f e.follows c.cells.invariant.owed o;
     }
+
+pub returns-clause-lawful : goal.returns-clause-lawful
+returns-clause-lawful g c =
+    let m = g.A.Actor.meaning in let cs = c.args.cells.now in
+    let end : length cs ≤ c.cells.cell-index = omega arith in
+    let all : take c.cells.cell-index cs ≡ cs = grind (arith, common_steps) in
+    in_turn_lawful m cs (sent c.args.pending.now c.cells.pending) c.requires (owed_in_family m g.met.A.Actor.same_lawful g.met.A.Actor.lawful_below g.met.A.Actor.owed_lawful)
+    (subst (λ q. IsOwedInTurn m cs q (sent c.args.pending.now c.cells.pending)) all c.cells.invariant.owed)
+
+pub returns-clause-covered : goal.returns-clause-covered
+returns-clause-covered g c =
+    let m = g.A.Actor.meaning in let cs = c.args.cells.now in
+    let end : length cs ≤ c.cells.cell-index = omega arith in
+    let all : take c.cells.cell-index cs ≡ cs = grind (arith, common_steps) in
+    in_turn_covered m cs (sent c.args.pending.now c.cells.pending) c.requires (owed_in_family m g.met.A.Actor.same_lawful g.met.A.Actor.lawful_below g.met.A.Actor.owed_lawful)
+    (subst (λ q. IsOwedInTurn m cs q (sent c.args.pending.now c.cells.pending)) all c.cells.invariant.owed)

@@ -1,16 +1,17 @@
 //! What cells owe each other and have not.
 ghost use Rattle.std.specs.Prelude.{◌≡◌, ◌++◌, OnOk};
 ghost use Rattle.cd_base.specs.Lists.{IsApart};
-ghost use Rattle.cd_actor.specs.Cells.{AreCells};
+ghost use Rattle.cd_actor.specs.Cells.{AreCells, AreAllLawful, IsOwedCovered};
+ghost use Rattle.cd_actor.specs.Owed.{IsNotHadOf, IsOwedInTurn};
 ghost use Rattle.cd_actor.specs.Sends.{sent};
-ghost use Rattle.cd_core.specs.Begin.{AreAllLawful, IsNotHadOf, IsOwedInTurn};
 
-use cd_actor::{Actor, Outbox};
+use crate::actor::Actor;
+use crate::outbox::Outbox;
 use cd_base::Memory;
 use std::alloc::Global;
 
 /// Appends what each cell owes and its addressee has not, the first cell's first. Linear in what is owed.
-pub(crate) fn put_owed<A: Actor>(
+pub fn put_owed<A: Actor>(
     alloc: Global,
     cells: &[A],
     pending: &mut Outbox<A::Msg>,
@@ -20,6 +21,8 @@ where
     requires { AreCells A.meaning cells.now }
     ensures follows { OnOk result (pending.new ≡ pending.old ++ sent pending.old pending.new) }
     ensures owed { OnOk result (IsOwedInTurn A.meaning cells.now cells.now (sent pending.old pending.new)) }
+    ensures lawful { OnOk result (AreAllLawful A.meaning cells.now (sent pending.old pending.new)) }
+    ensures covered { OnOk result (IsOwedCovered A.meaning cells.now (sent pending.old pending.new)) }
 {
     'cells: for cell in cells {
         let mut owed = Outbox::new(alloc);
