@@ -1,159 +1,35 @@
--- What is owed and not had where a core begins.
-use Rattle.std.proofs.Common.{◌≡◌, ℕ, zero, suc, ◌+◌, ◌<◌, ◌⊎◌, inl, inr, true, false, List, [], ◌∷◌, ◌++◌, length, take, refl, ap, sym, ◌∙◌, subst, arith, add-one, append_assoc}
-use Rattle.std.proofs.lemmas.Bool.{cases_Bool}
+-- How a core begins.
+use Rattle.std.proofs.Common.{◌≡◌, ℕ, inl, inr, false, List, ◌++◌, length, refl, ap, sym, ◌∙◌, subst}
 use Rattle.std.proofs.lemmas.List.{append-nil, nil_from_length}
-use Rattle.cd_base.specs.Lists.{Member, IsApart}
+use Rattle.cd_base.specs.Lists.{Member}
+use Rattle.cd_base.proofs.Members.{member_right, member_cases}
 use Rattle.cd_actor.specs.Sends.{sent}
-use Rattle.cd_actor.specs.Laws.{OwedInFamily}
 use Rattle.cd_actor.specs.Meaning.{Meaning}
-use Rattle.cd_actor.specs.Cells.{At, IsLawful, Had, HadOrPends, AreCells}
+use Rattle.cd_actor.specs.Cells.{AreCells, AreAllLawful, IsOwedCovered}
+use Rattle.cd_actor.specs.Owed.{IsOwedInTurn}
 use Rattle.cd_core.specs.State.{Runs}
-use Rattle.cd_core.specs.Begin.{AreAllLawful, IsNotHadOf, IsOwedOf, IsOwedInTurn, IsBegun}
-use Rattle.cd_base.proofs.Members.{member_left, member_right, member_cases}
-use Rattle.cd_actor.proofs.Members.{apart_more}
-use Rattle.cd_actor.proofs.At.{at_one, at_some}
-use Rattle.cd_core.proofs.Lists.{sent_more, follows_more, take_at}
-
--- what is true of messages that are gone through: `left` is left of `all`, and those that are not had were appended to `old`
-pub record IsJoining {A M : Type 0} (g : Meaning A M) (cells : List A) (all old left new : List (ℕ × M)) : Type 0 where
-  pub follows : new ≡ old ++ sent old new
-  pub lawful : AreAllLawful g cells left
-  pub left_apart : IsApart left
-  pub apart : IsApart (sent old new)
-  pub only : (x : ℕ × M) → Member x (sent old new) → Member x all × (Had g cells x → ⊥)
-  -- what is left was not gone through
-  pub fresh : (x : ℕ × M) → Member x (sent old new) → Member x left → ⊥
-  pub rest : (x : ℕ × M) → Member x left → Member x all
-  pub every : (x : ℕ × M) → Member x all → Member x left ⊎ HadOrPends g cells (sent old new) x
-
-module _ {A M : Type 0} (g : Meaning A M) (cells : List A) (all old left new : List (ℕ × M)) (p : ℕ) (m : M) (less : List (ℕ × M)) (a : A) (j : IsJoining g cells all old left new) (e : left ≡ (p, m) ∷ less) (at : At cells p a) where
-  now : IsJoining g cells all old ((p, m) ∷ less) new
-  now = subst (λ q. IsJoining g cells all old q new) e j
-
-  -- a message that is had is left out
-  pub join_drop : g.has a m ≡ true → IsJoining g cells all old less new
-  join_drop h = record {
-    follows = now.follows;
-    lawful = λ x i. now.lawful x (inr i);
-    left_apart = now.left_apart.1;
-    apart = now.apart;
-    only = now.only;
-    fresh = λ x i k. now.fresh x i (inr k);
-    rest = λ x i. now.rest x (inr i);
-    every = λ x i. elim (now.every x i) [
-      | inl k ↦ elim k [ inl q ↦ inr (inl (subst (λ y. Had g cells y) (sym q) (a, at, h))) | inr n ↦ inl n ]
-      | inr k ↦ inr k
-    ];
-  }
-
-  not_had : g.has a m ≡ false → Had g cells (p, m) → ⊥
-  not_had h k = let z : k.0 ≡ a = at_one cells p k.0 a k.1 at in let w : g.has a m ≡ true = subst (λ c. g.has c m ≡ true) z k.2 in cc
-
-  -- a message that is not had is appended
-  pub join_keep : g.has a m ≡ false → (after : List (ℕ × M)) → after ≡ new ++ (p, m) ∷ [] → IsJoining g cells all old less after
-  join_keep h after f =
-      let s : sent old after ≡ sent old new ++ (p, m) ∷ [] = sent_more old new after ((p, m) ∷ []) now.follows f in
-      let parts = λ (x : ℕ × M) (i : Member x (sent old after)). member_cases x (sent old new) ((p, m) ∷ []) (subst (λ q. Member x q) s i) in record {
-        follows = follows_more old new after ((p, m) ∷ []) now.follows f;
-        lawful = λ x i. now.lawful x (inr i);
-        left_apart = now.left_apart.1;
-        apart = subst IsApart (sym s) (apart_more (sent old new) (p, m) now.apart (λ i. now.fresh (p, m) i (inl refl)));
-        only = λ x i. elim (parts x i) [
-          | inl k ↦ now.only x k
-          | inr k ↦ elim k [ inl q ↦ (subst (λ y. Member y all) (sym q) (now.rest (p, m) (inl refl)), λ w. not_had h (subst (λ y. Had g cells y) q w)) | inr z ↦ absurd z ]
-        ];
-        fresh = λ x i k. elim (parts x i) [
-          | inl w ↦ now.fresh x w (inr k)
-          | inr w ↦ elim w [ inl q ↦ now.left_apart.0 (subst (λ y. Member y less) q k) | inr z ↦ absurd z ]
-        ];
-        rest = λ x i. now.rest x (inr i);
-        every = λ x i. elim (now.every x i) [
-          | inl k ↦ elim k [ inl q ↦ inr (inr (subst (λ l. Member x l) (sym s) (member_right x (sent old new) ((p, m) ∷ []) (inl q)))) | inr n ↦ inl n ]
-          | inr k ↦ elim k [ inl d ↦ inr (inl d) | inr d ↦ inr (inr (subst (λ l. Member x l) (sym s) (member_left x (sent old new) ((p, m) ∷ []) d))) ]
-        ];
-      }
-
--- where nothing is left, all that is not had was appended
-pub join_end : {A M : Type 0} (g : Meaning A M) (cells : List A) (all old left new : List (ℕ × M)) → IsJoining g cells all old left new → left ≡ [] → IsNotHadOf g cells all (sent old new)
-join_end {M = M} g cells all old left new j e = record { apart = j.apart; are = λ x. (j.only x, every x) }
-  where
-    every : (x : ℕ × M) → Member x all × (Had g cells x → ⊥) → Member x (sent old new)
-    every x k = elim (j.every x k.0) [
-      | inl i ↦ absurd (subst (λ l. Member x l) e i)
-      | inr i ↦ elim i [ inl h ↦ absurd (k.1 h) | inr h ↦ h ]
-    ]
-
--- what a cell owes is lawful
-pub owed_lawful : {A M : Type 0} (g : Meaning A M) (cells : List A) (i : ℕ) (a : A) (x : ℕ × M) → AreCells g cells → OwedInFamily g → At cells i a → g.owes a x.0 x.1 → IsLawful g cells x
-owed_lawful g cells i a x k law at o =
-    let w = k.whole i a at in
-    let b : x.0 < g.places a = (law a a refl w x.0 x.1 o).0 in let f : g.places a ≡ length cells = k.places i a at in
-    (omega arith, λ c j. (law a c (k.family i x.0 a c at j) w x.0 x.1 o).1)
-
--- what one cell lists, without what is had
-pub owed_of : {A M : Type 0} (g : Meaning A M) (cells : List A) (a : A) (owed part : List (ℕ × M)) → ((p : ℕ) (m : M) → Member (p, m) owed → g.owes a p m) → ((p : ℕ) (m : M) → g.owes a p m → Member (p, m) owed) → IsNotHadOf g cells owed part → IsOwedOf g cells a part
-owed_of g cells a owed part only every n = record {
-  apart = n.apart;
-  are = λ x. (λ i. let k = (n.are x).0 i in (only x.0 x.1 k.0, k.1), λ k. (n.are x).1 (every x.0 x.1 k.0, k.1));
-}
-
--- one more cell
-in_turn_more : {A M : Type 0} (g : Meaning A M) (cells rest : List A) (a : A) (more part : List (ℕ × M)) → IsOwedInTurn g cells rest more → IsOwedOf g cells a part → IsOwedInTurn g cells (rest ++ a ∷ []) (more ++ part)
-in_turn_more g cells [] a more part h o = (part, [], ap (λ q. q ++ part) h ∙ sym (append-nil part), o, refl)
-in_turn_more g cells (b ∷ rest) a more part h o = (h.0, h.1 ++ part, ap (λ q. q ++ part) h.2 ∙ append_assoc h.0 h.1 part, h.3, in_turn_more g cells rest a h.1 part h.4 o)
-
--- the cells that were gone through, and the next one
-pub in_turn_next : {A M : Type 0} (g : Meaning A M) (cells : List A) (i : ℕ) (a : A) (old now new : List (ℕ × M)) → At cells i a → now ≡ old ++ sent old now → new ≡ now ++ sent now new
-    → IsOwedInTurn g cells (take i cells) (sent old now) → IsOwedOf g cells a (sent now new) → IsOwedInTurn g cells (take (i + 1) cells) (sent old new)
-in_turn_next g cells i a old now new at f e h o =
-    let t : take i cells ++ a ∷ [] ≡ take (i + 1) cells = sym (rw add-one (take_at cells i a at)) in
-    let s : sent old now ++ sent now new ≡ sent old new = sym (sent_more old now new (sent now new) f e) in
-    subst (λ r. IsOwedInTurn g cells r (sent old new)) t (subst (λ q. IsOwedInTurn g cells (take i cells ++ a ∷ []) q) s (in_turn_more g cells (take i cells) a (sent old now) (sent now new) h o))
-
--- each message is owed by one of the cells
-pub in_turn_only : {A M : Type 0} (g : Meaning A M) (cells rest : List A) (more : List (ℕ × M)) → IsOwedInTurn g cells rest more → (x : ℕ × M) → Member x more → (i : ℕ) × (a : A) × At rest i a × g.owes a x.0 x.1
-in_turn_only g cells [] more h x k = absurd (subst (λ q. Member x q) h k)
-in_turn_only g cells (b ∷ rest) more h x k = elim (member_cases x h.0 h.1 (subst (λ q. Member x q) h.2 k)) [
-  | inl w ↦ (zero, b, refl, ((h.3.are x).0 w).0)
-  | inr w ↦ let r = in_turn_only g cells rest h.1 h.4 x w in (suc r.0, r.1, r.2, r.3)
-]
-
--- each message that one of the cells owes is there, unless it is had
-in_turn_every : {A M : Type 0} (g : Meaning A M) (cells rest : List A) (more : List (ℕ × M)) → IsOwedInTurn g cells rest more → (i : ℕ) (a : A) → At rest i a → (x : ℕ × M) → g.owes a x.0 x.1 → (Had g cells x → ⊥) → Member x more
-in_turn_every g cells [] more h i a at x o n = elim at [ ]
-in_turn_every g cells (b ∷ rest) more h zero a at x o n =
-    subst (λ q. Member x q) (sym h.2) (member_left x h.0 h.1 ((h.3.are x).1 (subst (λ c. g.owes c x.0 x.1) at o, n)))
-in_turn_every g cells (b ∷ rest) more h (suc i) a at x o n = subst (λ q. Member x q) (sym h.2) (member_right x h.0 h.1 (in_turn_every g cells rest h.1 h.4 i a at x o n))
+use Rattle.cd_core.specs.Begin.{IsBegun}
 
 -- the cells with the start messages and what is owed
-pub runs_begun : {A M : Type 0} (g : Meaning A M) (cells : List A) (start more pending : List (ℕ × M)) → AreCells g cells → OwedInFamily g
-    → AreAllLawful g cells start → pending ≡ start ++ more → IsOwedInTurn g cells cells more → Runs g cells pending
-runs_begun {A = A} {M = M} g cells start more pending k law s e o = record {
+runs_begun : {A M : Type 0} (g : Meaning A M) (cells : List A) (start more pending : List (ℕ × M)) → AreCells g cells
+    → AreAllLawful g cells start → AreAllLawful g cells more → IsOwedCovered g cells more → pending ≡ start ++ more → Runs g cells pending
+runs_begun g cells start more pending k s l c e = record {
   cells_ok = k;
-  lawful = λ x h. elim (member_cases x start more (subst (λ q. Member x q) e h)) [
-    | inl i ↦ s x i
-    | inr i ↦ let w = in_turn_only g cells cells more o x i in owed_lawful g cells w.0 w.1 x k law w.2 w.3
-  ];
-  owed = λ i a at p m w. owed i a at (p, m) w;
+  lawful = λ x h. elim (member_cases x start more (subst (λ q. Member x q) e h)) [ inl i ↦ s x i | inr i ↦ l x i ];
+  owed = λ i a at p m w. elim (c i a at p m w) [ inl h ↦ inl h | inr h ↦ inr (subst (λ q. Member (p, m) q) (sym e) (member_right (p, m) start more h)) ];
 }
-  where
-    owed : (i : ℕ) (a : A) → At cells i a → (x : ℕ × M) → g.owes a x.0 x.1 → HadOrPends g cells pending x
-    owed i a at x w =
-        let l = owed_lawful g cells i a x k law at w in let c = at_some cells x.0 l.0 in
-        elim (cases_Bool (g.has c.0 x.1)) [
-          | inl h ↦ inl (c.0, c.1, h)
-          | inr h ↦ inr (subst (λ q. Member x q) (sym e) (member_right x start more (in_turn_every g cells cells more o i a at x w (λ d.
-              let z : d.0 ≡ c.0 = at_one cells x.0 d.0 c.0 d.1 c.1 in let v : g.has c.0 x.1 ≡ true = subst (λ b. g.has b x.1 ≡ true) z d.2 in cc))))
-        ]
 
 -- the start messages went through one by one, `slice` is the cells, and what is owed was appended
-pub begun : {A M : Type 0} (g : Meaning A M) (cells slice : List A) (start first rest pending : List (ℕ × M)) → AreCells g cells → OwedInFamily g
-    → AreAllLawful g cells start → first ++ rest ≡ start → length rest ≡ 0 → pending ≡ first ++ sent first pending → slice ≡ cells → IsOwedInTurn g slice slice (sent first pending)
+pub begun : {A M : Type 0} (g : Meaning A M) (cells slice : List A) (start first rest pending : List (ℕ × M)) → AreCells g cells
+    → AreAllLawful g cells start → first ++ rest ≡ start → length rest ≡ 0 → pending ≡ first ++ sent first pending → slice ≡ cells
+    → IsOwedInTurn g slice slice (sent first pending) → AreAllLawful g slice (sent first pending) → IsOwedCovered g slice (sent first pending)
     → Runs g cells pending × IsBegun g cells start (cells, pending, false)
-begun g cells slice start first rest pending k law s e n f q o =
+begun g cells slice start first rest pending k s e n f q o l c =
     let first_is : first ≡ start = sym (append-nil first) ∙ ap (λ r. first ++ r) (sym (nil_from_length rest n)) ∙ e in
     let follows : pending ≡ start ++ sent first pending = f ∙ ap (λ r. r ++ sent first pending) first_is in
-    let owed : IsOwedInTurn g cells cells (sent first pending) = subst (λ r. IsOwedInTurn g r r (sent first pending)) q o in (
-      runs_begun g cells start (sent first pending) pending k law s follows owed,
+    let owed : IsOwedInTurn g cells cells (sent first pending) = subst (λ r. IsOwedInTurn g r r (sent first pending)) q o in
+    let lawful : AreAllLawful g cells (sent first pending) = subst (λ r. AreAllLawful g r (sent first pending)) q l in
+    let covered : IsOwedCovered g cells (sent first pending) = subst (λ r. IsOwedCovered g r (sent first pending)) q c in (
+      runs_begun g cells start (sent first pending) pending k s lawful covered follows,
       record { cells_are = refl; more = sent first pending; pending = follows; owed = owed; stands = refl },
     )

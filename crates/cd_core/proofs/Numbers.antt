@@ -10,7 +10,8 @@ use Rattle.cd_actor.specs.Meaning.{Meaning, Delivers}
 use Rattle.cd_actor.specs.Cells.{At}
 use Rattle.cd_base.proofs.Members.{member_left, member_right, member_cases}
 use Rattle.cd_actor.proofs.Members.{apart_more}
-use Rattle.cd_core.proofs.Lists.{sent_all, take_at}
+use Rattle.cd_actor.proofs.At.{take_at}
+use Rattle.cd_actor.proofs.Sent.{sent_all}
 
 -- a number n above 0 owes n - 1 to the cell at place n - 1, counted round
 abbrev pub owed : ℕ → ℕ → List (ℕ × ℕ)

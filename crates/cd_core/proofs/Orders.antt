@@ -2,11 +2,12 @@
 use Rattle.std.proofs.Common.{ℕ, inl, inr, Bool, List, [], ◌∷◌, sym, subst}
 use Rattle.cd_base.specs.Lists.{Member}
 use Rattle.cd_actor.specs.Meaning.{Meaning}
-use Rattle.cd_base.specs.Counts.{last}
 use Rattle.cd_actor.specs.Cells.{AreOf, Had, HadOrPends}
-use Rattle.cd_core.specs.State.{Runs, KeepsAll, KeepsFamily}
+use Rattle.cd_actor.specs.Settled.{KeepsFamily}
+use Rattle.cd_core.specs.State.{Runs, KeepsAll}
 use Rattle.cd_core.specs.Runs.{ComesTo, EveryOrder}
 use Rattle.cd_base.proofs.Members.{member_left}
+use Rattle.cd_core.proofs.Turns.{settled}
 
 -- steps keep what they keep one by one
 comes_keeps : {A M : Type 0} (g : Meaning A M) (choices : List ℕ) (old new : List A × List (ℕ × M) × Bool) → Runs g old.0 old.1 → ComesTo g choices old new → Runs g new.0 new.1 × KeepsAll g old.0 old.1 new.0 new.1 × KeepsFamily g old.0 new.0
@@ -15,12 +16,10 @@ comes_keeps g (choice ∷ choices) old new r h = let k = comes_keeps g choices h
 
 -- where nothing pends, nothing that pended is lost
 pub every_order : {A M : Type 0} (g : Meaning A M) → EveryOrder g
-every_order {A = A} {M = M} g cells start choices first last b r c e =
-    (k.0.cells_ok, λ f of. k.2 f (subst (λ cs. AreOf g f cs) (sym b.cells_are) of), λ x i. none x (k.1 x (inr (subst (λ q. Member x q) (sym b.pending) (member_left x start b.more i)))), λ i a at p m o. none (p, m) (k.0.owed i a at p m o))
+every_order {M = M} g cells start choices first last b r c e =
+    let k = comes_keeps g choices first last r c in
+    settled g cells start last.0 last.1 k.0 (λ x h. k.1 x (began x h)) (λ f of. k.2 f (subst (λ cs. AreOf g f cs) (sym b.cells_are) of)) e
   where
-    k : Runs g last.0 last.1 × KeepsAll g first.0 first.1 last.0 last.1 × KeepsFamily g first.0 last.0
-    k = comes_keeps g choices first last r c
-
-    none : (x : ℕ × M) → HadOrPends g last.0 last.1 x → Had g last.0 x
-    none x (inl h) = h
-    none x (inr h) = absurd (subst (λ q. Member x q) e h)
+    began : (x : ℕ × M) → HadOrPends g cells start x → HadOrPends g first.0 first.1 x
+    began x (inl h) = inl (subst (λ cs. Had g cs x) (sym b.cells_are) h)
+    began x (inr h) = inr (subst (λ q. Member x q) (sym b.pending) (member_left x start b.more h))

@@ -7,8 +7,9 @@ use Rattle.cd_base.specs.Lists.{Member}
 use Rattle.cd_actor.specs.Meaning.{HasRisen, Meaning, Keeps, Delivers}
 use Rattle.cd_base.specs.Counts.{last}
 use Rattle.cd_actor.specs.Cells.{At, IsLawful, Had, HadOrPends, IsOwedCovered, total}
-use Rattle.cd_core.specs.State.{Runs, KeepsAll, KeepsFamily, KeepsHad}
-use Rattle.cd_core.specs.Ends.{IsEnd, IsOneDeliveryPast}
+use Rattle.cd_actor.specs.Settled.{IsSettled, KeepsFamily, KeepsHad}
+use Rattle.cd_core.specs.State.{Runs, KeepsAll}
+use Rattle.cd_core.specs.Ends.{IsOneDeliveryPast}
 use Rattle.cd_base.proofs.Members.{member_left, member_right, member_cases}
 use Rattle.cd_actor.proofs.At.{at_below, at_one, at_of_set, at_to_set, at_same, at_some, at_get, remove_to, remove_from, at_member}
 
@@ -120,15 +121,13 @@ rises g cells p m a b cs fs cb fb ca fa cn fn pending pending_new at k risen qui
     ]
 
 -- where nothing pends, all that was had or pended is had
-pub run_end : {A M : Type 0} (g : Meaning A M) (cells : List A) (pending : List (ℕ × M)) (after : List A) (rest : List (ℕ × M)) (max_contexts max_facts contexts facts : ℕ) → Runs g after rest → KeepsAll g cells pending after rest → KeepsFamily g cells after → rest ≡ []
-    → contexts ≡ total g.contexts after → facts ≡ total g.facts after → contexts < max_contexts → facts < max_facts → IsEnd g cells pending max_contexts max_facts after
-run_end {M = M} g cells pending after rest mc mf cs fs r k of e c f lc lf = record {
+pub settled : {A M : Type 0} (g : Meaning A M) (cells : List A) (pending : List (ℕ × M)) (after : List A) (rest : List (ℕ × M)) → Runs g after rest → KeepsAll g cells pending after rest → KeepsFamily g cells after → rest ≡ []
+    → IsSettled g cells pending after
+settled {M = M} g cells pending after rest r k of e = record {
   are_cells = r.cells_ok;
   family = of;
   had = λ x h. none x (k x h);
   owed = λ i a at p m o. none (p, m) (r.owed i a at p m o);
-  few_contexts = omega arith;
-  few_facts = omega arith;
 }
   where
     none : (x : ℕ × M) → HadOrPends g after rest x → Had g after x

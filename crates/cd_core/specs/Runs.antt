@@ -1,9 +1,8 @@
 -- Runs by any list of choices.
 use Rattle.std.specs.Prelude.{◌≡◌, ℕ, false, Bool, List, [], ◌∷◌}
-use Rattle.cd_base.specs.Lists.{Member}
 use Rattle.cd_actor.specs.Meaning.{Meaning}
-use Rattle.cd_actor.specs.Cells.{At, AreCells, Had}
-use Rattle.cd_core.specs.State.{Runs, KeepsAll, KeepsFamily}
+use Rattle.cd_actor.specs.Settled.{IsSettled, KeepsFamily}
+use Rattle.cd_core.specs.State.{Runs, KeepsAll}
 use Rattle.cd_core.specs.Begin.{IsBegun}
 use Rattle.cd_core.specs.Steps.{IsStepOrEmpty}
 use Rattle.cd_core.specs.declared.stops.Step.{Step}
@@ -22,9 +21,8 @@ abbrev pub ComesTo : {A M : Type 0} → Meaning A M → List ℕ → List A × L
 ComesTo g [] old new = new ≡ old
 ComesTo {A} {M} g (choice ∷ choices) old new = (next : List A × List (ℕ × M) × Bool) × IsStepped g choice old next × ComesTo g choices next new
 
--- whatever the choices: where a core that began with these start messages has come to one in which nothing pends, its cells are whole cells of
--- the family of the first ones, each start message is had, and each message that is owed
+-- whatever the choices: where a core that began with these start messages has come to one in which nothing pends, its cells are settled: whole
+-- cells of the family of the first ones, which have each start message and each message that is owed
 abbrev pub EveryOrder : {A M : Type 0} → Meaning A M → Type 0
 EveryOrder {A} {M} g = (cells : List A) (start : List (ℕ × M)) (choices : List ℕ) (first last : List A × List (ℕ × M) × Bool)
-    → IsBegun g cells start first → Runs g first.0 first.1 → ComesTo g choices first last → last.1 ≡ []
-    → AreCells g last.0 × KeepsFamily g cells last.0 × ((x : ℕ × M) → Member x start → Had g last.0 x) × ((i : ℕ) (a : A) → At last.0 i a → (p : ℕ) (m : M) → g.owes a p m → Had g last.0 (p, m))
+    → IsBegun g cells start first → Runs g first.0 first.1 → ComesTo g choices first last → last.1 ≡ [] → IsSettled g cells start last.0

@@ -1,26 +1,17 @@
 -- What a core keeps: cells of one family, and the messages that pend.
 use Rattle.std.specs.Prelude.{◌≡◌, ℕ, false, Bool, List}
-use Rattle.cd_base.specs.Lists.{Member}
 use Rattle.cd_actor.specs.Meaning.{Meaning}
-use Rattle.cd_actor.specs.Cells.{AreCells, AreOf, IsLawful, Had, HadOrPends, IsOwedCovered, total}
+use Rattle.cd_actor.specs.Cells.{AreCells, AreAllLawful, HadOrPends, IsOwedCovered, total}
 
 -- each message that pends is lawful for its cell, and each that is owed is had or pends
 pub record Runs {A M : Type 0} (g : Meaning A M) (cells : List A) (pending : List (ℕ × M)) : Type 0 where
   pub cells_ok : AreCells g cells
-  pub lawful : (x : ℕ × M) → Member x pending → IsLawful g cells x
+  pub lawful : AreAllLawful g cells pending
   pub owed : IsOwedCovered g cells pending
 
 -- what was had or pended is had or pends
 abbrev pub KeepsAll : {A M : Type 0} → Meaning A M → List A → List (ℕ × M) → List A → List (ℕ × M) → Type 0
 KeepsAll {A} {M} g cells pending cells_new pending_new = (x : ℕ × M) → HadOrPends g cells pending x → HadOrPends g cells_new pending_new x
-
--- what was had is had
-abbrev pub KeepsHad : {A M : Type 0} → Meaning A M → List A → List A → Type 0
-KeepsHad {A} {M} g cells cells_new = (x : ℕ × M) → Had g cells x → Had g cells_new x
-
--- the cells stay of the family that they are of
-abbrev pub KeepsFamily : {A M : Type 0} → Meaning A M → List A → List A → Type 0
-KeepsFamily g cells cells_new = (f : g.Family) → AreOf g f cells → AreOf g f cells_new
 
 -- a core is so, with the two sums, until a delivery has wanted for memory
 pub record IsSound {A M : Type 0} (g : Meaning A M) (cells : List A) (pending : List (ℕ × M)) (contexts facts : ℕ) (failed : Bool) : Type 0 where

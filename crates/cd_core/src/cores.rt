@@ -1,17 +1,16 @@
 //! Cores: cells and the messages that pend.
 ghost use Rattle.std.specs.Prelude.{◌≡◌, ℕ, List, Bool, true, false, length, IfOk, IfErr, OnOk, OnErr};
-ghost use Rattle.cd_actor.specs.Cells.{AreCells};
-ghost use Rattle.cd_core.specs.State.{Runs, KeepsAll, KeepsFamily, IsSound};
-ghost use Rattle.cd_core.specs.Begin.{AreAllLawful, IsBegun};
+ghost use Rattle.cd_actor.specs.Cells.{AreCells, AreAllLawful};
+ghost use Rattle.cd_actor.specs.Settled.{KeepsFamily};
+ghost use Rattle.cd_core.specs.State.{Runs, KeepsAll, IsSound};
+ghost use Rattle.cd_core.specs.Begin.{IsBegun};
 ghost use Rattle.cd_core.specs.Steps.{IsStepOrEmpty};
 ghost use Rattle.cd_core.specs.Ends.{IsEnd, IsStop, StopsAtOnce};
 
-use crate::owed::put_owed;
 use crate::stops::{Step, Stop};
-use crate::sums::{sum_contexts, sum_facts};
 use crate::turn::{deliver_to, deliver_until_new};
-use cd_actor::{Actor, Outbox};
-use cd_base::{LimitKind, Limits, Memory};
+use cd_actor::{Actor, Outbox, put_owed, reached, sum_contexts, sum_facts};
+use cd_base::{Limits, Memory};
 use std::alloc::Global;
 use std::marker::Model;
 
@@ -137,14 +136,9 @@ impl<A: Actor> Core<A> {
         if failed {
             return Err(Stop::Memory);
         }
-        let max_contexts = limits.max_contexts;
-        let max_facts = limits.max_facts;
         'rounds: loop {
-            if contexts >= max_contexts {
-                return Err(Stop::Limit(LimitKind::Contexts, contexts, cells));
-            }
-            if facts >= max_facts {
-                return Err(Stop::Limit(LimitKind::Facts, facts, cells));
+            if let Some((kind, number)) = reached(contexts, facts, limits) {
+                return Err(Stop::Limit(kind, number, cells));
             }
             match deliver_until_new(alloc, &mut cells, &mut pending, &mut contexts, &mut facts) {
                 Ok(true) => {}

@@ -3,7 +3,8 @@ ghost use Rattle.std.specs.Prelude.{◌≡◌, ◌+◌, ◌<◌, ◌≤◌, ◌�
 ghost use Rattle.cd_actor.specs.Sends.{sent};
 ghost use Rattle.cd_base.specs.Counts.{last};
 ghost use Rattle.cd_actor.specs.Cells.{total};
-ghost use Rattle.cd_core.specs.State.{Runs, KeepsAll, KeepsFamily, KeepsHad};
+ghost use Rattle.cd_actor.specs.Settled.{KeepsFamily, KeepsHad};
+ghost use Rattle.cd_core.specs.State.{Runs, KeepsAll};
 ghost use Rattle.cd_core.specs.Steps.{IsTurn};
 ghost use Rattle.cd_core.specs.Ends.{IsOneDeliveryPast};
 

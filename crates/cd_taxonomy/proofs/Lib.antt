@@ -1,5 +1,6 @@
 pub mod Candidates
 pub mod Connected
+pub mod Decided
 pub mod DirectSuperclasses
 pub mod GroupNumbers
 pub mod LinesOfGroups

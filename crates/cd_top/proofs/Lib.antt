@@ -1,10 +1,6 @@
-pub mod Answered
 pub mod Answering
 pub mod Asked
-pub mod Closures
 pub mod Complete
-pub mod CoreRuns
-pub mod Documents
 pub mod Fronts
 pub mod LeastTrial
 pub mod Renumbering
@@ -13,7 +9,6 @@ pub mod RestatedAxioms
 pub mod RestatedLines
 pub mod RestatedNames
 pub mod RestatedTokens
-pub mod Runs
 pub mod SameAnswer
 pub mod SomeText
 pub mod Told

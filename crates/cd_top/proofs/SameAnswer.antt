@@ -1,39 +1,24 @@
 -- Documents that say the same have the same answer.
-use Rattle.std.proofs.Common.{◌≡◌, ℕ, ◌<◌, Bool, List, [], length, refl, sym, ap, subst, ◌∙◌, arith}
+use Rattle.std.proofs.Common.{◌≡◌, ℕ, ◌<◌, Bool, List, [], length, refl, sym, ap, subst, ◌∙◌}
 use Rattle.std.specs.Prelude.{Some, ◌↔◌}
 use Rattle.std.specs.List.{Contains}
-use Rattle.std.proofs.lemmas.Bool.{both_ways}
 use Rattle.std.proofs.lemmas.List.{get_or_default}
 use Rattle.std.proofs.lemmas.Option.{slice_get_within, get_or_from_slice_get, slice_get-get_or}
-use Rattle.cd_meaning.specs.declared.expression.Expr.TheVariants.{Name}
 use Rattle.cd_meaning.specs.declared.document.Document.{Document}
 use Rattle.cd_meaning.specs.Answer.{Decides, IsAnswer}
 use Rattle.cd_meaning.specs.Entailment.{Entails}
 use Rattle.cd_meaning.specs.Hierarchy.{name_of}
-use Rattle.cd_meaning.specs.Membership.{member}
-use Rattle.cd_meaning.specs.MembershipTable.{member-Name}
 use Rattle.cd_meaning.specs.Text.{text}
 use Rattle.cd_names.specs.Names.{number}
-use Rattle.cd_taxonomy.specs.Relation.{IsSubsumption}
+use Rattle.cd_taxonomy.proofs.Decided.{subsumption}
 use Rattle.cd_taxonomy.proofs.Lists.{same_tests}
 use Rattle.cd_top.specs.Restated.{EntailsNamed, SaysTheSame, SameHaveSameAnswer}
 use Rattle.cd_top.proofs.Renumbering.{same_text}
-use Rattle.cd_top.proofs.RestatedNames.{AreDistinct, two_distinct, number_inside, number_names, number_is, same_number}
+use Rattle.cd_top.proofs.RestatedNames.{AreDistinct, number_inside, number_names, number_is, same_number}
 
 -- the names of a document's classes are distinct
 names_of : (document : Document) → AreDistinct document.classes
 names_of document = record { reserved = document.reserved; distinct = document.distinct_classes }
-
--- what decides entailment is a subsumption
-pub subsumption : (document : Document) (below : ℕ → ℕ → Bool) → Decides document below → IsSubsumption (length document.classes) below
-subsumption document below decided =
-    let two = two_distinct document.classes (names_of document) in
-    record {
-      reflexive = λ a lt. (decided a a lt lt).1 (λ i model x l h. h);
-      transitive = λ a b c la lb lc h k. (decided a c la lc).1 (λ i model x l d. (decided b c lb lc).0 k i model x l ((decided a b la lb).0 h i model x l d));
-      thing = λ a lt. (decided a 0 lt (omega (arith, two))).1 (λ i model x l h. member-Name i x 0);
-      nothing = λ a lt. (decided 1 a two lt).1 (λ i model x l h. absurd (both_ways (member i (Name 1) x) (member-Name i x 1) h));
-    }
 
 -- ---- by number and by name
 

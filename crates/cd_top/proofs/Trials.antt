@@ -2,8 +2,8 @@
 use Rattle.std.proofs.Common.{◌≡◌, ℕ, subst, ap}
 use Rattle.std.specs.Prelude.{Result, Ok, Err}
 use Rattle.cd_base.specs.declared.limit_kind.LimitKind.{LimitKind}
-use Rattle.cd_top.specs.declared.answers.Halt.{Halt}
-use Rattle.cd_top.specs.declared.answers.Halt.TheVariants.{Memory}
+use Rattle.cd_saturation.specs.declared.halt.Halt.{Halt}
+use Rattle.cd_saturation.specs.declared.halt.Halt.TheVariants.{Memory}
 use Rattle.cd_top.specs.declared.status.Status.{Status}
 use Rattle.cd_top.specs.declared.status.Status.TheVariants.{Limit}
 

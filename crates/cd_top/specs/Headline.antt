@@ -7,7 +7,7 @@ use Rattle.cd_meaning.specs.declared.document.Document.{Document}
 use Rattle.cd_meaning.specs.AnyDomain.{Elements, EntailsOver}
 use Rattle.cd_meaning.specs.Answer.{IsAnswer}
 use Rattle.cd_base.specs.declared.limit_kind.LimitKind.{LimitKind}
-use Rattle.cd_top.specs.Limit.{IsReached}
+use Rattle.cd_saturation.specs.Limit.{IsReached}
 use Rattle.cd_top.specs.Restated.{EntailsNamed, Restates}
 
 -- how many bytes of input the command takes: no option sets it

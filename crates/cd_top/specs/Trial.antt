@@ -7,7 +7,7 @@ use Rattle.cd_meaning.specs.Answer.{Decides}
 use Rattle.cd_gen.specs.Generated.{generated_axioms, generated_classes, generated_roles}
 use Rattle.cd_taxonomy.specs.Summary.{summary_of, summary_text}
 use Rattle.cd_base.specs.declared.limit_kind.LimitKind.{LimitKind}
-use Rattle.cd_top.specs.Limit.{IsReached}
+use Rattle.cd_saturation.specs.Limit.{IsReached}
 
 -- the document is the generated one of so many levels
 pub record IsGenerated (levels : ℕ) (document : Document) : Type 0 where

@@ -4,12 +4,12 @@ ghost use Rattle.cd_base.specs.Iri.{IsIri};
 ghost use Rattle.cd_base.specs.declared.limit_kind.LimitKind.{LimitKind};
 ghost use Rattle.cd_meaning.specs.Answer.{IsAnswer};
 ghost use Rattle.cd_meaning.specs.Nodes.{nodes};
-ghost use Rattle.cd_top.specs.Answers.{AreAnswers};
-ghost use Rattle.cd_top.specs.Limit.{IsReached};
+ghost use Rattle.cd_saturation.specs.Answers.{AreAnswers};
+ghost use Rattle.cd_saturation.specs.Limit.{IsReached};
 
-use crate::answers::{Halt, answers};
 use cd_base::{Answer, Limits, Memory};
 use cd_meaning::Document;
+use cd_saturation::{Halt, answers};
 use cd_taxonomy::{taxonomy, text};
 use std::alloc::Global;
 

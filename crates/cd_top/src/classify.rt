@@ -10,11 +10,11 @@ ghost use Rattle.cd_base.specs.declared.limit_kind.LimitKind.{LimitKind};
 ghost use Rattle.cd_top.specs.Status.{IsEarly};
 
 use crate::answer::answer_to;
-use crate::answers::Halt;
 use crate::status::Status;
 use cd_base::{LimitKind, Limits};
 use cd_grammar::{ReadRefusal, read_document};
 use cd_io::{Sink, Source, WriteFault, write_all};
+use cd_saturation::Halt;
 use cd_syntax::Refusal;
 use std::alloc::Global;
 use thiserror::Error;

@@ -3,12 +3,11 @@
 //!
 //! `run` is all that a program has to call. A caller that has limits of its own calls `classify_here`.
 //!
-//! The road of a document, by modules: `cd_grammar` reads it. `indexing` makes its normal axioms (`cd_normal`, `cd_index`), `saturation`
-//! works the cells with the contexts until each conclusion is redundant (`cd_core`, `cd_cell`), `answers` asks them for the superclasses
-//! of each class, and `answer` has `cd_taxonomy` write the text. `classify` reads, answers and writes. `trial` takes the same road with
-//! the document that `cd_gen` makes, up to the taxonomy, and writes its summary. `command` has `cd_words` look at the words before it,
-//! and `notes` puts a line on the notes after it. `status` has the ways in which a run ends. `laws` says of the definitions that an
-//! answer is a document that says the same as the input.
+//! The road of a document, by modules: `cd_grammar` reads it, `cd_saturation` has the superclasses of each class, and `answer` has
+//! `cd_taxonomy` write the text. `classify` reads, answers and writes. `trial` takes the same road with the document that `cd_gen` makes,
+//! up to the taxonomy, and writes its summary. `command` has `cd_words` look at the words before it, and `notes` puts a line on the notes
+//! after it. `status` has the ways in which a run ends. `laws` says of the definitions that an answer is a document that says the same as
+//! the input.
 //!
 //! Nothing is written before the whole answer is there. So the output is as it was where the input is refused, a read fails or
 //! memory runs out, and after a write that failed it has a front of the one right text, never a part of another.
@@ -21,13 +20,10 @@
 #![tactic(auto)]
 
 mod answer;
-mod answers;
 mod classify;
 mod command;
-mod indexing;
 mod laws;
 mod notes;
-mod saturation;
 mod status;
 mod trial;
 
@@ -37,8 +33,6 @@ pub use laws::{
 };
 pub use status::Status;
 
-#[cfg(test)]
-mod core_tests;
 #[cfg(test)]
 mod examples;
 #[cfg(test)]

@@ -3,15 +3,13 @@
 ghost use Rattle.std.specs.Prelude.{◌+◌, ◌*◌, ◌-◌, ◌^◌, ◌<◌, length};
 ghost use Rattle.cd_meaning.specs.Nodes.{nodes};
 
-use crate::answers::answers;
 use crate::small_ontologies::SMALL_ONTOLOGIES;
 use crate::{Status, classify_here, run};
-use cd_base::{LimitKind, Limits};
+use cd_base::{LimitKind, Limits, Normal};
 use cd_grammar::read_document;
-use cd_index::{Closure, Index};
 use cd_io::{MemSink, MemSource, Source};
 use cd_meaning::Document;
-use cd_normal::normalise;
+use cd_saturation::{answers, index_of};
 use cd_taxonomy::{Group, taxonomy, text};
 use std::alloc::Global;
 use std::process::Abort;
@@ -507,18 +505,9 @@ fn the_groups_stand_in_the_order_of_their_names(rt: HostRuntime) {
     drop(document);
 }
 
-/// The normal axioms of a text, indexed.
-fn index_of(rt: &impl Abort, alloc: Global, text: Vec<u8>) -> Index {
-    let document = document_of(rt, alloc, text);
-    let normal = normalise(alloc, &document).expect(rt, "memory");
-    drop(document);
-    let closure = Closure::of(alloc, normal.roles, normal.n5.items()).expect(rt, "memory");
-    Index::of(alloc, normal, closure).expect(rt, "memory")
-}
-
-/// Whether just the first `count` atoms of an index are classes of the document.
-fn has_named(index: &Index, count: usize) -> bool {
-    let flags = index.normal().named.items();
+/// Whether just the first `count` atoms are classes of the document.
+fn has_named(normal: &Normal, count: usize) -> bool {
+    let flags = normal.named.items();
     let first = flags.iter().take(count).filter(|flag| **flag).count();
     let all = flags.iter().filter(|flag| **flag).count();
     first == count && all == count
@@ -527,8 +516,10 @@ fn has_named(index: &Index, count: usize) -> bool {
 /// Whether the normal axioms of a text have so many classes of the document, which are their first atoms, and so many roles.
 fn is_normalised(rt: &impl Abort, alloc: Global, text: &str, named: usize, roles: u32) -> bool {
     let bytes = text.as_bytes().to_vec(alloc).expect(rt, "memory");
-    let index = index_of(rt, alloc, bytes);
-    let holds = has_named(&index, named) && index.normal().roles == roles;
+    let document = document_of(rt, alloc, bytes);
+    let index = index_of(alloc, &document).expect(rt, "memory");
+    drop(document);
+    let holds = has_named(index.normal(), named) && index.normal().roles == roles;
     drop(index);
     holds
 }
@@ -611,9 +602,11 @@ fn large_text(rt: &impl Abort, alloc: Global) -> Vec<u8> {
 
 #[test]
 fn a_large_document_is_normalised_and_indexed(rt: HostRuntime) {
-    let index = index_of(&rt, rt.alloc(), large_text(&rt, rt.alloc()));
+    let document = document_of(&rt, rt.alloc(), large_text(&rt, rt.alloc()));
+    let index = index_of(rt.alloc(), &document).expect(&rt, "memory");
+    drop(document);
     // owl:Thing and owl:Nothing, five classes for each number, and those of the large disjointness.
-    assert!(rt; has_named(&index, 32_502));
+    assert!(rt; has_named(index.normal(), 32_502));
     assert_eq!(rt; index.normal().roles, 25_003);
     assert_eq!(rt; index.normal().n5.items().len(), 7_500);
     assert_eq!(rt; index.free().len(), 2_501);

@@ -5,11 +5,10 @@ ghost use Rattle.cd_syntax.specs.declared.refusal.Refusal.{Refusal};
 ghost use Rattle.cd_io.specs.Causes.{Rose};
 ghost use Rattle.cd_taxonomy.specs.Relation.{relation};
 ghost use Rattle.cd_taxonomy.specs.Summary.{summary_of, summary_text};
-ghost use Rattle.cd_top.specs.Answers.{AreAnswers};
+ghost use Rattle.cd_saturation.specs.Answers.{AreAnswers};
 ghost use Rattle.cd_top.specs.Status.{line_of, IsEarly, IsNoted};
 ghost use Rattle.cd_top.specs.Trial.{IsTrialText, IsTried, IsPartlyTried, IsTrialLimited, IsTrialAnswerable};
 
-use crate::answers::{Halt, answers};
 use crate::classify::publish;
 use crate::notes::note;
 use crate::status::Status;
@@ -17,6 +16,7 @@ use cd_base::{Answer, Limits, Memory};
 use cd_gen::make;
 use cd_io::Sink;
 use cd_meaning::Document;
+use cd_saturation::{Halt, answers};
 use cd_taxonomy::{summary, summary_text, taxonomy};
 use std::alloc::Global;
 

@@ -1,4 +1,4 @@
-use Rattle.cd_actor.proofs.Owed.{owed_in_family}
+use Rattle.cd_actor.proofs.Family.{owed_in_family}
 use Rattle.cd_actor.proofs.laws.owed_in_family.Goals as goal
 
 pub returns : goal.returns

@@ -3,7 +3,7 @@ use Rattle.std.proofs.lemmas.Grind.{common_steps}
 use Rattle.cd_actor.specs.Cells.{At}
 use Rattle.cd_core.specs.State.{Runs, KeepsAll}
 use Rattle.cd_actor.proofs.At.{at_index}
-use Rattle.cd_core.proofs.Lists.{sent_none}
+use Rattle.cd_actor.proofs.Sent.{sent_none}
 use Rattle.cd_core.proofs.Turns.{turn_had, turn_family, turn_runs, turn_keeps, total_step, rises}
 use Rattle.cd_core.proofs.turn.deliver_to.Goals as goal
 

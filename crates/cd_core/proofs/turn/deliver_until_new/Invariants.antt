@@ -1,6 +1,7 @@
 use Rattle.std.proofs.Common.{◌≡◌, length}
 use Rattle.cd_actor.specs.Cells.{total}
-use Rattle.cd_core.specs.State.{Runs, KeepsAll, KeepsFamily, KeepsHad}
+use Rattle.cd_actor.specs.Settled.{KeepsFamily, KeepsHad}
+use Rattle.cd_core.specs.State.{Runs, KeepsAll}
 use Rattle.cd_core.proofs.turn.deliver_until_new.Given as goal
 
 abbrev pub invariant-turns : goal.invariant-turns

@@ -1,7 +1,7 @@
 use Rattle.std.proofs.Common.{ap, ◌∙◌}
 use Rattle.cd_taxonomy.specs.Relation.{relation}
 use Rattle.cd_taxonomy.specs.Summary.{summary_of, summary_text}
-use Rattle.cd_top.specs.declared.answers.Halt.{Halt}
+use Rattle.cd_saturation.specs.declared.halt.Halt.{Halt}
 use Rattle.cd_top.proofs.Trials.{same_halt}
 use Rattle.cd_top.proofs.trial.trial_text.Goals as goal
 

@@ -1,51 +1,55 @@
-use Rattle.std.proofs.Common.{◌≡◌, ◌⊎◌, inr, subst, sym, arith}
-use Rattle.cd_actor.specs.Cells.{AreOf, Had}
+use Rattle.std.proofs.Common.{◌≡◌, ◌+◌, ◌<◌, ◌≤◌, ◌⊎◌, inr, subst, sym, ◌∙◌, arith}
+use Rattle.cd_actor.specs.Cells.{AreOf, Had, total}
+use Rattle.cd_actor.specs.Maxima.{AreBelow, Reaches}
 use Rattle.cd_core.specs.Ends.{IsEnd, IsOneDeliveryPast}
-use Rattle.cd_core.proofs.Turns.{run_end, past_more}
+use Rattle.cd_core.proofs.Turns.{settled, past_more}
 use Rattle.cd_core.proofs.cores.Core.finish.Goals as goal
 
 pub rounds-preserved : goal.rounds-preserved
-rounds-preserved g c = record {
-  runs = c.in-Ok-true.ensures.runs;
-  keeps = λ x h. c.in-Ok-true.ensures.keeps x (c.rounds.invariant.keeps x h);
-  had = λ x h. c.in-Ok-true.ensures.had x (c.rounds.invariant.had x h);
-  family = λ f of. c.in-Ok-true.ensures.family f (c.rounds.invariant.family f of);
-  contexts = c.in-Ok-true.ensures.contexts;
-  facts = c.in-Ok-true.ensures.facts;
-  at_once = inr (past_more g.A.Actor.meaning _ c.rounds.cells.items _ _ c.args.limits.now.max_contexts c.args.limits.now.max_facts _ c.rounds.invariant.had (omega arith) (omega arith) (c.in-Ok-true.ensures.turn c.in-Ok-true.field-0-test));
-}
+rounds-preserved g c =
+    let contexts : c.rounds.contexts < c.args.limits.now.max_contexts = c.in_default.ensures.few_contexts in
+    let facts : c.rounds.facts < c.args.limits.now.max_facts = c.in_default.ensures.few_facts in
+    let more_contexts : c.rounds.contexts + 1 ≤ c.args.limits.now.max_contexts = omega arith in
+    let more_facts : c.rounds.facts + 1 ≤ c.args.limits.now.max_facts = omega arith in
+    record {
+      runs = c.in-Ok-true.ensures.runs;
+      keeps = λ x h. c.in-Ok-true.ensures.keeps x (c.rounds.invariant.keeps x h);
+      had = λ x h. c.in-Ok-true.ensures.had x (c.rounds.invariant.had x h);
+      family = λ f of. c.in-Ok-true.ensures.family f (c.rounds.invariant.family f of);
+      contexts = c.in-Ok-true.ensures.contexts;
+      facts = c.in-Ok-true.ensures.facts;
+      at_once = inr (past_more g.A.Actor.meaning _ c.rounds.cells.items _ _ c.args.limits.now.max_contexts c.args.limits.now.max_facts _ c.rounds.invariant.had more_contexts more_facts (c.in-Ok-true.ensures.turn c.in-Ok-true.field-0-test));
+    }
 
 pub returns-in-Ok-false-clause-ok : goal.returns-in-Ok-false-clause-ok
 returns-in-Ok-false-clause-ok g c =
     let e = c.in-Ok-false.ensures in
     let d = e.done c.in-Ok-false.field-0-test in
     let m = g.A.Actor.meaning in
-    subst (λ v. IsEnd m v.0 v.1 c.args.limits.now.max_contexts c.args.limits.now.max_facts c.deliver_until_new.new.cells.items) c.self.view_is
-    (run_end m c.self.inside.cells.items c.self.inside.pending c.deliver_until_new.new.cells.items c.deliver_until_new.new.pending c.args.limits.now.max_contexts c.args.limits.now.max_facts c.deliver_until_new.new.contexts c.deliver_until_new.new.facts
-    e.runs (λ x h. e.keeps x (c.rounds.invariant.keeps x h)) (λ f of. e.family f (c.rounds.invariant.family f of)) d.0 e.contexts e.facts (omega arith) (omega arith))
+    let after = c.deliver_until_new.new.cells.items in
+    let max_contexts = c.args.limits.now.max_contexts in let max_facts = c.args.limits.now.max_facts in
+    subst (λ v. IsEnd m v.0 v.1 c.args.limits.now.max_contexts c.args.limits.now.max_facts after) c.self.view_is record {
+      settled = settled m c.self.inside.cells.items c.self.inside.pending after c.deliver_until_new.new.pending e.runs (λ x h. e.keeps x (c.rounds.invariant.keeps x h)) (λ f of. e.family f (c.rounds.invariant.family f of)) d.0;
+      few = subst (λ n. AreBelow n (total m.facts after) max_contexts max_facts) (sym d.1 ∙ e.contexts)
+          (subst (λ n. AreBelow c.rounds.contexts n max_contexts max_facts) (sym d.2 ∙ e.facts) c.in_default.ensures);
+    }
 
-pub returns-then-contexts-max_contexts-clause-stop :
-    goal.returns-then-contexts-max_contexts-clause-stop
-returns-then-contexts-max_contexts-clause-stop g c =
+pub returns-in-Some-clause-stop : goal.returns-in-Some-clause-stop
+returns-in-Some-clause-stop g c =
     let m = g.A.Actor.meaning in
     let i = c.rounds.invariant in
     let e = c.self.view_is in
-    (i.runs.cells_ok, λ x h. i.had x (subst (λ v. Had m v.0 x) (sym e) h), λ f of. i.family f (subst (λ v. AreOf m f v.0) (sym e) of), i.contexts, omega arith)
-
-pub returns-then-facts-max_facts-clause-stop : goal.returns-then-facts-max_facts-clause-stop
-returns-then-facts-max_facts-clause-stop g c =
-    let m = g.A.Actor.meaning in
-    let i = c.rounds.invariant in
-    let e = c.self.view_is in
-    (i.runs.cells_ok, λ x h. i.had x (subst (λ v. Had m v.0 x) (sym e) h), λ f of. i.family f (subst (λ v. AreOf m f v.0) (sym e) of), i.facts, omega arith, omega arith)
-
-pub returns-then-contexts-max_contexts-clause-at_once :
-    goal.returns-then-contexts-max_contexts-clause-at_once
-returns-then-contexts-max_contexts-clause-at_once g c =
     let cells = c.rounds.cells.items in
-    subst (λ v. (cells ≡ v.0) ⊎ IsOneDeliveryPast g.A.Actor.meaning v.0 c.args.limits.now.max_contexts c.args.limits.now.max_facts cells) c.self.view_is c.rounds.invariant.at_once
+    let max_contexts = c.args.limits.now.max_contexts in let max_facts = c.args.limits.now.max_facts in
+    let kind = c.in-Some.kind in let number = c.in-Some.number in (
+      i.runs.cells_ok,
+      λ x h. i.had x (subst (λ v. Had m v.0 x) (sym e) h),
+      λ f of. i.family f (subst (λ v. AreOf m f v.0) (sym e) of),
+      subst (λ n. Reaches n (total m.facts cells) max_contexts max_facts kind number) i.contexts
+          (subst (λ n. Reaches c.rounds.contexts n max_contexts max_facts kind number) i.facts c.in-Some.ensures),
+    )
 
-pub returns-then-facts-max_facts-clause-at_once : goal.returns-then-facts-max_facts-clause-at_once
-returns-then-facts-max_facts-clause-at_once g c =
+pub returns-in-Some-clause-at_once : goal.returns-in-Some-clause-at_once
+returns-in-Some-clause-at_once g c =
     let cells = c.rounds.cells.items in
     subst (λ v. (cells ≡ v.0) ⊎ IsOneDeliveryPast g.A.Actor.meaning v.0 c.args.limits.now.max_contexts c.args.limits.now.max_facts cells) c.self.view_is c.rounds.invariant.at_once

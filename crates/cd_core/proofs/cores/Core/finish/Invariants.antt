@@ -1,7 +1,8 @@
 use Rattle.std.proofs.Common.{◌≡◌, ◌+◌, ◌-◌, ◌⊎◌}
 use Rattle.cd_actor.specs.Cells.{total}
 use Rattle.cd_core.specs.Ends.{IsOneDeliveryPast}
-use Rattle.cd_core.specs.State.{Runs, KeepsAll, KeepsFamily, KeepsHad}
+use Rattle.cd_actor.specs.Settled.{KeepsFamily, KeepsHad}
+use Rattle.cd_core.specs.State.{Runs, KeepsAll}
 use Rattle.cd_core.proofs.cores.Core.finish.Given as goal
 
 abbrev pub invariant-rounds : goal.invariant-rounds
@@ -12,8 +13,8 @@ invariant-rounds g l = record {
   family : KeepsFamily g.A.Actor.meaning l.initial.cells.items l.cells.items;
   contexts : l.contexts ≡ total g.A.Actor.meaning.contexts l.cells.items;
   facts : l.facts ≡ total g.A.Actor.meaning.facts l.cells.items;
-  at_once : (l.cells.items ≡ l.initial.cells.items) ⊎ IsOneDeliveryPast g.A.Actor.meaning l.initial.cells.items l.max_contexts l.max_facts l.cells.items;
+  at_once : (l.cells.items ≡ l.initial.cells.items) ⊎ IsOneDeliveryPast g.A.Actor.meaning l.initial.cells.items l.limits.max_contexts l.limits.max_facts l.cells.items;
 }
 
 abbrev pub decreases-rounds : goal.decreases-rounds
-decreases-rounds g l = (l.max_contexts - l.contexts) + (l.max_facts - l.facts)
+decreases-rounds g l = (l.limits.max_contexts - l.contexts) + (l.limits.max_facts - l.facts)

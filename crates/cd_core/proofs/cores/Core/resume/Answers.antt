@@ -2,7 +2,6 @@ use Rattle.std.proofs.Common.{◌≡◌, length, ◌∙◌, ap, arith}
 use Rattle.std.specs.Vec.Iter.{into_iter_items, into_iter_len}
 use Rattle.std.proofs.lemmas.Grind.{common_steps}
 use Rattle.cd_actor.specs.Cells.{total}
-use Rattle.cd_actor.proofs.Owed.{owed_in_family}
 use Rattle.cd_core.proofs.Begins.{begun}
 use Rattle.cd_core.proofs.cores.Core.resume.Goals as goal
 
@@ -12,7 +11,7 @@ returns-clause-sound g c =
     let l : length (into_iter_items c.start.cell-iterator) ≡ 0 = grind (arith, common_steps) in
     let o = c.in_ok-put_owed.ensures in
     (begun g.A.Actor.meaning c.args.cells.items _ c.args.start.items c.start.pending (into_iter_items c.start.cell-iterator) c.put_owed.new.pending
-    c.requires.cells (owed_in_family g.A.Actor.meaning g.met.A.Actor.same_lawful g.met.A.Actor.lawful_below g.met.A.Actor.owed_lawful) c.requires.start c.start.invariant.is l o.follows c.deref.ensures.value o.owed).0
+    c.requires.cells c.requires.start c.start.invariant.is l o.follows c.deref.ensures.value o.owed o.lawful o.covered).0
 
 pub returns-clause-begun : goal.returns-clause-begun
 returns-clause-begun g c =
@@ -20,7 +19,7 @@ returns-clause-begun g c =
     let l : length (into_iter_items c.start.cell-iterator) ≡ 0 = grind (arith, common_steps) in
     let o = c.in_ok-put_owed.ensures in
     (begun g.A.Actor.meaning c.args.cells.items _ c.args.start.items c.start.pending (into_iter_items c.start.cell-iterator) c.put_owed.new.pending
-    c.requires.cells (owed_in_family g.A.Actor.meaning g.met.A.Actor.same_lawful g.met.A.Actor.lawful_below g.met.A.Actor.owed_lawful) c.requires.start c.start.invariant.is l o.follows c.deref.ensures.value o.owed).1
+    c.requires.cells c.requires.start c.start.invariant.is l o.follows c.deref.ensures.value o.owed o.lawful o.covered).1
 
 pub invariant_of-result : goal.invariant_of-result
 invariant_of-result g c =
@@ -29,7 +28,7 @@ invariant_of-result g c =
     let l : length (into_iter_items c.start.cell-iterator) ≡ 0 = grind (arith, common_steps) in
     let o = c.in_ok-put_owed.ensures in
     let runs = (begun g.A.Actor.meaning c.args.cells.items _ c.args.start.items c.start.pending (into_iter_items c.start.cell-iterator) c.put_owed.new.pending
-    c.requires.cells (owed_in_family g.A.Actor.meaning g.met.A.Actor.same_lawful g.met.A.Actor.lawful_below g.met.A.Actor.owed_lawful) c.requires.start c.start.invariant.is l o.follows c.deref.ensures.value o.owed).0 in record {
+    c.requires.cells c.requires.start c.start.invariant.is l o.follows c.deref.ensures.value o.owed o.lawful o.covered).0 in record {
       runs = λ _. runs;
       contexts_are = λ _. c.sum_contexts-contexts.ensures ∙ ap (λ q. total m.contexts q) c.deref-2.ensures.value;
       facts_are = λ _. c.sum_facts-facts.ensures ∙ ap (λ q. total m.facts q) c.deref-3.ensures.value;

@@ -1,6 +1,0 @@
-use Rattle.std.proofs.Common.{◌≡◌, take}
-use Rattle.cd_actor.specs.Cells.{total}
-use Rattle.cd_core.proofs.sums.sum_contexts.Given as goal
-
-abbrev pub invariant-cells : goal.invariant-cells
-invariant-cells g l = l.sum ≡ total g.A.Actor.meaning.contexts (take l.cell-index l.cells)

@@ -1,0 +1,5 @@
+pub mod Answered
+pub mod Closures
+pub mod CoreRuns
+pub mod Documents
+pub mod Runs

@@ -1,0 +1,4 @@
+pub mod Answers
+pub mod CoreRuns
+pub mod Limit
+pub mod Saturation

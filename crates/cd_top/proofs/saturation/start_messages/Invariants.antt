@@ -1,5 +1,0 @@
-use Rattle.cd_top.specs.Saturation.{AreStarts}
-use Rattle.cd_top.proofs.saturation.start_messages.Given as goal
-
-abbrev pub invariant-classes : goal.invariant-classes
-invariant-classes l = AreStarts l.count l.class l.start.items
