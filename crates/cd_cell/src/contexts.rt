@@ -1,10 +1,11 @@
 //! Contexts by their keys.
-ghost use Rattle.std.specs.Prelude.{◌≡◌, ◌⊎◌, ◌+◌, ◌-◌, [], None, Some, min, IfOk, OnErr};
+ghost use Rattle.std.specs.Prelude.{◌≡◌, ◌⊎◌, ◌+◌, ◌-◌, [], false, None, Some, min, IfOk, OnErr};
 ghost use Rattle.std.specs.Option.{option_copied};
 ghost use Rattle.cd_clause.specs.Derivations.{Reachable};
 ghost use Rattle.cd_context.specs.Justified.{Justified, IsContext, ClosedLocally};
 ghost use Rattle.cd_base.specs.Counts.{last};
-ghost use Rattle.cd_context.specs.Facts.{count};
+ghost use Rattle.cd_context.specs.Facts.{has_fact, count};
+ghost use Rattle.cd_context.specs.State.{State};
 ghost use Rattle.cd_cell.specs.Cells.{has_note, contexts_of, facts_of, state_at};
 ghost use Rattle.cd_cell.specs.Telling.{AreClosed, AreOwed, AreOwn, IsNext, Puts, Takes, Tells};
 
@@ -91,7 +92,7 @@ impl Contexts {
         Ok(notes)
     }
 
-    /// Gives the context of the key the fact, and begins that context where there is none. The notes that it came to owe.
+    /// Gives the context of the key the fact, which it hasn't, and begins that context where there is none. The notes that it came to owe.
     ///
     /// One look-up and the cost of the rules; a second look-up where the context begins. After `Memory` the context has what it had, with
     /// the fact or without it, and may take no further fact.
@@ -105,6 +106,7 @@ impl Contexts {
         requires closed { AreClosed index.now.normal self.old }
         requires reachable { Reachable index.now.normal key.now }
         requires justified { Justified index.now.normal key.now fact }
+        requires fresh { (s : State) → state_at self.old key.now ≡ Some s → has_fact s fact ≡ false }
         ensures ok { IfOk result (λ notes. Tells index.now.normal self.old key.now fact self.new notes.items) }
         ensures err { OnErr result ((self.new ≡ self.old) ⊎ Puts index.now.normal self.old key.now self.new) }
     {
@@ -141,7 +143,7 @@ impl Contexts {
     }
 }
 
-/// Gives the context the fact, and adds what it gained to the sum, whatever the answer. The notes that it came to owe.
+/// Gives the context the fact, which it hasn't, and adds what it gained to the sum, whatever the answer. The notes that it came to owe.
 fn take(
     context: &mut Context,
     sum: &mut u64,
@@ -152,13 +154,14 @@ fn take(
     requires context { IsContext index.now.normal context.old }
     requires closed { ClosedLocally index.now.normal context.old }
     requires justified { Justified index.now.normal context.old.key fact }
+    requires fresh { has_fact context.old fact ≡ false }
     ensures next { IsNext index.now.normal (Some context.old) context.old.key context.new }
     ensures sum { sum.new ≡ min (sum.old + (count context.new - count context.old)) last }
     ensures ok { IfOk result (λ notes. Takes index.now.normal (Some context.old) fact context.new notes.items) }
 {
     let before = context.facts();
     let mut notes = Vec::new(alloc);
-    let taken = context.absorb(alloc, fact, index, &mut notes);
+    let taken = context.absorb_new(alloc, fact, index, &mut notes);
     *sum = sum.saturating_add(context.facts() - before);
     taken?;
     Ok(notes)

@@ -76,9 +76,8 @@ impl Context {
 
     /// Takes a fact. The context is closed again, and what it came to owe is appended to `out`. A fact that it has changes nothing.
     ///
-    /// One look-up, and for a new link a walk over the live clauses, for a new back or dead that of `conclude_back`, and the cost of `begin` for
-    /// each clause that is taken up. After `Memory` nothing was appended, and the context keeps all that it had, with the fact or without it; it may not be closed, and then no
-    /// further fact may come.
+    /// One look-up, and the cost of `absorb_new` where it hasn't the fact. After `Memory` nothing was appended, and the context keeps all
+    /// that it had, with the fact or without it; it may not be closed, and then no further fact may come.
     pub fn absorb(
         &mut self,
         alloc: Global,
@@ -102,6 +101,33 @@ impl Context {
         if self.has(&fact) {
             return Ok(());
         }
+        self.absorb_new(alloc, fact, index, out)
+    }
+
+    /// Takes a fact that it hasn't, as `absorb` does, for a caller that has asked.
+    ///
+    /// For a link a walk over the live clauses, for a back or dead that of `conclude_back`, and the cost of `begin` for each clause that is
+    /// taken up. After `Memory` as after that of `absorb`.
+    pub fn absorb_new(
+        &mut self,
+        alloc: Global,
+        fact: Fact,
+        index: &Index,
+        out: &mut Vec<Note>,
+    ) -> Result<(), Memory>
+        requires context { IsContext index.now.normal self.old }
+        requires closed { ClosedLocally index.now.normal self.old }
+        requires justified { Justified index.now.normal self.old.key fact }
+        requires fresh { has_fact self.old fact ≡ false }
+        ensures context { IsContext index.now.normal self.new }
+        ensures grows { Grows self.old self.new }
+        ensures only { GainsOnly self.old fact self.new }
+        ensures closed { OnOk result (ClosedLocally index.now.normal self.new) }
+        ensures had { OnOk result (has_fact self.new fact ≡ true) }
+        ensures risen { OnOk result ((count self.old < count self.new) ⊎ (count self.new ≡ last)) }
+        ensures sends { OnOk result (Sends index.now.normal (Unit {0}) (Owes index.now.normal self.old) self.new out.old.items out.new.items) }
+        ensures err { OnErr result (out.new.items ≡ out.old.items) }
+    {
         match fact {
             // every context has it, so this arm isn't reached
             Fact::Start => Ok(()),

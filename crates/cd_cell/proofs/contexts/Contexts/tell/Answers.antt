@@ -23,6 +23,11 @@ take-requires-clause-justified c =
     here_justified c.args.index.now.normal c.self.inside.by_key.entries c.args.key.now c.self.inside.by_key.entries c.in-Some.context.now c.in-Some.context.now c.in-Some.ensures.value closed
     c.args.fact c.requires.justified
 
+pub take-requires-clause-fresh : goal.take-requires-clause-fresh
+take-requires-clause-fresh c =
+    c.requires.fresh c.in-Some.context.now
+    (ap (λ (es : List (List ℕ × State)). state_at es c.args.key.now) (sym c.self.view_is) ∙ state_at_is c.self.inside.by_key.entries c.args.key.now ∙ sym c.in-Some.ensures.value)
+
 pub invariant_of-self : goal.invariant_of-self
 invariant_of-self c =
     let w = c.take.new.context in
