@@ -36,8 +36,6 @@ pub use status::Status;
 #[cfg(test)]
 mod examples;
 #[cfg(test)]
-mod small_ontologies;
-#[cfg(test)]
 mod tests;
 #[cfg(test)]
 mod zoo;

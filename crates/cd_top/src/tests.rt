@@ -3,7 +3,7 @@
 ghost use Rattle.std.specs.Prelude.{◌+◌, ◌*◌, ◌-◌, ◌^◌, ◌<◌, length};
 ghost use Rattle.cd_meaning.specs.Nodes.{nodes};
 
-use crate::small_ontologies::SMALL_ONTOLOGIES;
+use crate::examples::{EXAMPLES, SMALL};
 use crate::{Status, classify_here, run};
 use cd_base::{LimitKind, Limits, Normal};
 use cd_grammar::read_document;
@@ -95,7 +95,7 @@ pub(crate) fn has_written(ran: &Ended, out: &str, notes: &str) -> bool {
 }
 
 /// Whether the command answers the input with this text, and says nothing else.
-pub(crate) fn is_answered(rt: &impl Abort, alloc: Global, input: &str, expected: &str) -> bool {
+fn is_answered(rt: &impl Abort, alloc: Global, input: &str, expected: &str) -> bool {
     let ran = run_over_memory(rt, alloc, "classify", input);
     let holds = ran.status == Status::Done && has_written(&ran, expected, "");
     drop(ran);
@@ -148,36 +148,27 @@ fn real_syntax_gives_the_taxonomy_of_what_it_says(rt: HostRuntime) {
     }
 }
 
-/// The text with the whole names of the two classes that every ontology has.
-fn with_whole_names(rt: &impl Abort, alloc: Global, text: &str) -> String {
-    let thing = "<http://www.w3.org/2002/07/owl#Thing>";
-    let nothing = "<http://www.w3.org/2002/07/owl#Nothing>";
-    let named = text.replace(alloc, "owl:Thing", thing).expect(rt, "memory");
-    named
-        .replace(alloc, "owl:Nothing", nothing)
-        .expect(rt, "memory")
-}
-
-/// Whether the command answers the input with this text, once its names are whole.
-fn is_answered_in_short(rt: &impl Abort, alloc: Global, input: &str, expected: &str) -> bool {
-    let text = with_whole_names(rt, alloc, expected);
-    is_answered(rt, alloc, input, text.as_str())
+#[test]
+fn examples_have_their_taxonomies(rt: HostRuntime) {
+    for (input, expected) in EXAMPLES {
+        assert!(rt; is_answered(&rt, rt.alloc(), input, expected), "{input}");
+    }
 }
 
 #[test]
 fn small_ontologies_have_the_taxonomies_that_all_their_interpretations_give(rt: HostRuntime) {
-    for (input, expected) in SMALL_ONTOLOGIES {
-        assert!(rt;
-            is_answered_in_short(&rt, rt.alloc(), input, expected),
-            "{input}"
-        );
+    for (input, expected) in SMALL {
+        assert!(rt; is_answered(&rt, rt.alloc(), input, expected), "{input}");
     }
 }
 
 #[test]
 fn the_answer_to_an_answer_is_the_same_text(rt: HostRuntime) {
-    for (_, text) in SMALL_ONTOLOGIES {
-        assert!(rt; is_answered_in_short(&rt, rt.alloc(), text, text), "{text}");
+    for (_, text) in SMALL {
+        assert!(rt; is_answered(&rt, rt.alloc(), text, text), "{text}");
+    }
+    for (_, text) in EXAMPLES {
+        assert!(rt; is_answered(&rt, rt.alloc(), text, text), "{text}");
     }
 }
 
