@@ -69,23 +69,22 @@ pub(crate) fn singles(
     ensures exact { IfOk result (λ atoms. (b : ℕ) → Member b atoms.items ↔ IsSingle (picked clauses.now live.now) b) }
     ensures ascends { IfOk result (λ atoms. IsStrictlyIncreasing atoms.items) }
 {
-    let mut numbers = Vec::new(alloc);
+    let mut atoms = Vec::new(alloc);
     'numbers: for i in 0..live.len() {
         let at = live[i];
-        push_single(&clauses[at], &mut numbers)?;
+        push_single(&clauses[at], &mut atoms)?;
     }
-    put_in_order(&mut numbers);
-    let atoms = atoms_of(alloc, numbers.as_slice())?;
+    put_in_order(&mut atoms);
     Ok(atoms)
 }
 
-/// Appends the number of the atom that is alone in the clause, if one is. Constant time.
-fn push_single(clause: &Clause, numbers: &mut Vec<u32>) -> Result<(), Memory>
-    ensures { OnOk result ((b : ℕ) → Member b numbers.new.items ↔ (Member b numbers.old.items ⊎ SameSet clause.now (Plain b ∷ []))) }
+/// Appends the atom that is alone in the clause, if one is. Constant time.
+fn push_single(clause: &Clause, atoms: &mut Vec<Atom>) -> Result<(), Memory>
+    ensures { OnOk result ((b : ℕ) → Member b atoms.new.items ↔ (Member b atoms.old.items ⊎ SameSet clause.now (Plain b ∷ []))) }
 {
     match only_atom(clause.elems()) {
         Some(atom) => {
-            numbers.push(atom.number())?;
+            atoms.push(atom)?;
         }
         None => {}
     }
@@ -102,24 +101,11 @@ fn only_atom(elems: &[Elem]) -> Option<Atom>
     }
 }
 
-/// Puts the numbers in order, each once. `n log n`.
-fn put_in_order(numbers: &mut Vec<u32>)
-    ensures same { (b : ℕ) → Member b numbers.new.items ↔ Member b numbers.old.items }
-    ensures ascends { IsStrictlyIncreasing numbers.new.items }
+/// Puts the atoms in order, each once. `n log n`.
+fn put_in_order(atoms: &mut Vec<Atom>)
+    ensures same { (b : ℕ) → Member b atoms.new.items ↔ Member b atoms.old.items }
+    ensures ascends { IsStrictlyIncreasing atoms.new.items }
 {
-    numbers.sort_unstable();
-    numbers.dedup();
-}
-
-/// The atoms of these numbers, in the same order. Linear in them.
-fn atoms_of(alloc: Global, numbers: &[u32]) -> Result<Vec<Atom>, Memory>
-    ensures { IfOk result (λ atoms. atoms.items ≡ numbers.now) }
-{
-    let mut atoms = Vec::new(alloc);
-    let mut rest = numbers;
-    'numbers: while let [number, others @ ..] = rest {
-        atoms.push(Atom(*number))?;
-        rest = others;
-    }
-    Ok(atoms)
+    atoms.sort_unstable();
+    atoms.dedup();
 }

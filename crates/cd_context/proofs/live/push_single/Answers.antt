@@ -6,9 +6,9 @@ use Rattle.cd_context.proofs.live.push_single.Goals as goal
 
 pub returns-in_ok-push-in-Some : goal.returns-in_ok-push-in-Some
 returns-in_ok-push-in-Some c = λ b.
-    let old = c.args.numbers.now.items in
+    let old = c.args.atoms.now.items in
     let a : ℕ = c.in-Some.atom in
-    let new = c.in_ok-push-in-Some.ensures.items ∙ ap (λ (x : ℕ). old ++ x ∷ []) c.number.ensures in
+    let new = c.in_ok-push-in-Some.ensures.items in
     let one = one_if_only a b c.elems.result.now c.args.clause.now c.elems.ensures.elems c.elems.ensures.ascends c.in-Some.ensures in (
       λ m. elim (member_cases b old (a ∷ []) (subst (Member b) new m)) [ inl k ↦ inl k | inr k ↦ elim k [ inl e ↦ inr (one.1 e) | inr z ↦ absurd z ] ],
       λ q. subst (Member b) (sym new) (elim q [ inl k ↦ member_left b old (a ∷ []) k | inr s ↦ member_right b old (a ∷ []) (inl (one.0 s)) ]),

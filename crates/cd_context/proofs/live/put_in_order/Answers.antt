@@ -8,8 +8,8 @@ use Rattle.cd_context.proofs.live.put_in_order.Goals as goal
 
 pub returns-clause-same : goal.returns-clause-same
 returns-clause-same c = λ b.
-    subst (λ (l : List ℕ). Member b l ↔ Member b c.args.numbers.now.items) (sym (dedup_is eqb _ _ c.dedup.ensures.filtered))
-    (once_each c.args.numbers.now.items c.sort_unstable.new.self.items c.sort_unstable.ensures.permutation b)
+    subst (λ (l : List ℕ). Member b l ↔ Member b c.args.atoms.now.items) (sym (dedup_is eqb _ _ c.dedup.ensures.filtered))
+    (once_each c.args.atoms.now.items c.sort_unstable.new.self.items c.sort_unstable.ensures.permutation b)
 
 pub returns-clause-ascends : goal.returns-clause-ascends
 returns-clause-ascends c =

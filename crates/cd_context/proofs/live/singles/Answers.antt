@@ -23,13 +23,12 @@ pub numbers-preserved : goal.numbers-preserved
 numbers-preserved c =
     let at : ℕ = get_or c.args.live.now c.numbers.i 0 in
     let is = get_or_read c.args.clauses.now at c.index-clauses-at.result (c.requires.in_range _ (member_get c.args.live.now c.numbers.i 0 c.numbers-test.true)) c.index-clauses-at.is [] in
-    gather_goes (StandsAlone c.args.clauses.now c.args.live.now) c.numbers.i [] c.numbers.numbers.items c.numbers.invariant c.push_single.new.numbers.items
-    (λ b. subst (λ (d : List Elem). Member b c.push_single.new.numbers.items ↔ (Member b c.numbers.numbers.items ⊎ SameSet d (Plain b ∷ []))) is (c.in_ok-push_single.ensures b))
+    gather_goes (StandsAlone c.args.clauses.now c.args.live.now) c.numbers.i [] c.numbers.atoms.items c.numbers.invariant c.push_single.new.atoms.items
+    (λ b. subst (λ (d : List Elem). Member b c.push_single.new.atoms.items ↔ (Member b c.numbers.atoms.items ⊎ SameSet d (Plain b ∷ []))) is (c.in_ok-push_single.ensures b))
 
 pub returns-clause-exact : goal.returns-clause-exact
 returns-clause-exact c = λ b.
-    let gathered = gather_all (StandsAlone c.args.clauses.now c.args.live.now) c.numbers.i (length c.args.live.now) c.numbers.numbers.items (IsSingle (picked c.args.clauses.now c.args.live.now))
+    let gathered = gather_all (StandsAlone c.args.clauses.now c.args.live.now) c.numbers.i (length c.args.live.now) c.numbers.atoms.items (IsSingle (picked c.args.clauses.now c.args.live.now))
     c.numbers.invariant (omega (arith, c.numbers-test.false)) (alone_somewhere c.args.clauses.now c.args.live.now) in
-    let same = c.in_ok-atoms.ensures ∙ c.as_slice.ensures.value in
     let sorted = c.put_in_order.ensures.same b in
-    (λ m. (gathered b).0 (sorted.0 (subst (λ (l : List ℕ). Member b l) same m)), λ s. subst (λ (l : List ℕ). Member b l) (sym same) (sorted.1 ((gathered b).1 s)))
+    (λ m. (gathered b).0 (sorted.0 m), λ s. sorted.1 ((gathered b).1 s))
