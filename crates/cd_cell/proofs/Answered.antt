@@ -9,8 +9,8 @@ use Rattle.cd_base.specs.declared.answer.Answer.{Answer}
 use Rattle.cd_base.specs.declared.answer.Answer.TheVariants.{Of}
 use Rattle.cd_base.specs.declared.normal.Normal.{Normal}
 use Rattle.cd_clause.specs.declared.elem.Elem.{Elem}
+use Rattle.cd_clause.specs.Derivations.{IsSingle}
 use Rattle.cd_rules.proofs.Found.{filtered_member, member_filtered}
-use Rattle.cd_context.specs.Calls.{IsSingle}
 use Rattle.cd_context.specs.State.{State, live_of}
 use Rattle.cd_cell.specs.Cells.{state_at}
 use Rattle.cd_cell.specs.Subsumers.{IsAnswerOf, IsSubsumers}

@@ -5,22 +5,22 @@ use Rattle.cd_base.specs.Keys.{plain}
 use Rattle.cd_base.specs.Lists.{Member, IsApart, collect}
 use Rattle.cd_base.specs.declared.normal.Normal.{Normal}
 use Rattle.cd_base.proofs.Members.{member_map, map_member, member_collect, collect_member}
-use Rattle.cd_actor.specs.Cells.{At, Had}
-use Rattle.cd_actor.proofs.At.{at_get, at_member}
 use Rattle.cd_clause.specs.declared.elem.Elem.{Elem}
 use Rattle.cd_clause.specs.Derivations.{Derived}
+use Rattle.cd_model.specs.Canonical.{IsClosure, RolesInRange}
+use Rattle.cd_model.specs.Exactness.{Exact}
+use Rattle.cd_model.proofs.Exact.{exact}
 use Rattle.cd_context.specs.Facts.{has_fact}
 use Rattle.cd_context.specs.Justified.{ClosedLocally, IsContext}
 use Rattle.cd_context.specs.Owes.{Owes}
 use Rattle.cd_context.specs.State.{State, live_of}
 use Rattle.cd_context.specs.declared.facts.Note.{Note}
 use Rattle.cd_context.proofs.Justify.{live_derived}
-use Rattle.cd_cell.specs.Canonical.{IsClosure, RolesInRange}
+use Rattle.cd_actor.specs.Cells.{At, Had}
+use Rattle.cd_actor.proofs.At.{at_get, at_member}
 use Rattle.cd_cell.specs.Cells.{CellState, IsCell, IsWhole, OwesFrom, place_of, state_at, has_note, meaning}
 use Rattle.cd_cell.specs.Closed.{Closed}
 use Rattle.cd_cell.specs.ClosedCells.{AreClosed, CellExactness}
-use Rattle.cd_cell.specs.Exactness.{Exact}
-use Rattle.cd_cell.proofs.Exact.{exact}
 use Rattle.cd_cell.proofs.Lookups.{state_of_member, member_of_state, has_from}
 use Rattle.cd_cell.proofs.Saturating.{saturation}
 

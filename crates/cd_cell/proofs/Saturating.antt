@@ -11,6 +11,7 @@ use Rattle.cd_clause.specs.declared.elem.Elem.{Elem}
 use Rattle.cd_clause.specs.declared.elem.Elem.TheVariants.{Plain, Exist}
 use Rattle.cd_clause.specs.Elements.{Eligible}
 use Rattle.cd_clause.specs.Rules.{Concludes, by_init, by_neg, by_con, by_ex, by_back, by_dead, by_all}
+use Rattle.cd_model.specs.Saturated.{Saturated}
 use Rattle.cd_rules.specs.declared.facts.BackFact.{BackFact}
 use Rattle.cd_rules.specs.declared.facts.DeadFact.{DeadFact}
 use Rattle.cd_rules.specs.Facts.{IsBack, IsDead, ConcludesFrom}
@@ -20,7 +21,6 @@ use Rattle.cd_context.specs.Facts.{same_key, has_fact}
 use Rattle.cd_context.specs.Owes.{IsLinked, owes_link, owes_back, owes_dead}
 use Rattle.cd_context.specs.State.{State, live_of}
 use Rattle.cd_cell.specs.Closed.{Closed, Saturation}
-use Rattle.cd_cell.specs.Saturated.{Saturated}
 
 -- a fact that is had is listed
 linked : (s : State) (k : List ℕ) (r : ℕ) → has_fact s (Link k r) ≡ true → IsLinked s k r

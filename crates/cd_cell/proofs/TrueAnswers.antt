@@ -1,14 +1,15 @@
--- What a context answers is true in every model, where its cell is one of closed cells; and a class has one true answer.
-use Rattle.std.proofs.Common.{◌≡◌, ℕ, List, refl, ap}
+-- What a context answers is true in every model, where its cell is one of closed cells.
+use Rattle.std.proofs.Common.{ℕ, List}
 use Rattle.cd_base.specs.declared.answer.Answer.{Answer}
 use Rattle.cd_base.specs.declared.answer.Answer.TheVariants.{Unsatisfiable, Of}
 use Rattle.cd_base.specs.declared.normal.Normal.{Normal}
 use Rattle.cd_clause.specs.declared.elem.Elem.{Elem}
+use Rattle.cd_model.specs.Exactness.{Exact}
+use Rattle.cd_model.specs.TrueAnswers.{IsTrueAnswer}
+use Rattle.cd_model.proofs.TrueAnswers.{one_true_answer}
 use Rattle.cd_cell.specs.Cells.{CellState}
-use Rattle.cd_cell.specs.Exactness.{Exact}
 use Rattle.cd_cell.specs.Subsumers.{HasContext, IsAnswerOf, IsSubsumers}
-use Rattle.cd_cell.specs.TrueAnswers.{IsExactIn, IsTrueAnswer, OneTrueAnswer, SameAnswers}
-use Rattle.cd_cell.proofs.Ascending.{same_ascending}
+use Rattle.cd_cell.specs.TrueAnswers.{IsExactIn, SameAnswers}
 use Rattle.cd_cell.proofs.CellAnswers.{cell_exactness}
 
 -- the answer of live clauses that are exact is true
@@ -24,13 +25,6 @@ true_of_exact n a live (Of atoms) h e = (
 pub exact_answer : (c : CellState) (a : ℕ) (answer : Answer) → HasContext c.contexts a → IsSubsumers c.normal c.contexts a answer → IsExactIn c a answer
 exact_answer c a answer here is below closure roles cells closed i at =
     true_of_exact c.normal a _ answer (is here.0 here.1) (cell_exactness c.normal below closure roles cells closed i c at a here.0 here.1)
-
--- either the class has no element in any model, or its atoms ascend and are the same ones
-pub one_true_answer : OneTrueAnswer
-one_true_answer n a Unsatisfiable Unsatisfiable s t = refl
-one_true_answer n a Unsatisfiable (Of ys) s t = absurd (t.0 s)
-one_true_answer n a (Of xs) Unsatisfiable s t = absurd (s.0 t)
-one_true_answer n a (Of xs) (Of ys) s t = ap Of (same_ascending xs ys s.1 t.1 (λ b m. (t.2 b).1 ((s.2 b).0 m)) (λ b m. (s.2 b).1 ((t.2 b).0 m)))
 
 -- both answers are true
 pub same_answers : SameAnswers

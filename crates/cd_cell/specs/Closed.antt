@@ -2,12 +2,12 @@
 use Rattle.std.specs.Prelude.{◌≡◌, ℕ, true, List}
 use Rattle.cd_base.specs.Lists.{Member}
 use Rattle.cd_base.specs.declared.normal.Normal.{Normal}
+use Rattle.cd_model.specs.Saturated.{Saturated}
 use Rattle.cd_context.specs.declared.facts.Note.{Note}
 use Rattle.cd_context.specs.Facts.{has_fact}
 use Rattle.cd_context.specs.Justified.{ClosedLocally}
 use Rattle.cd_context.specs.Owes.{Owes}
 use Rattle.cd_context.specs.State.{State, live_of}
-use Rattle.cd_cell.specs.Saturated.{Saturated}
 
 -- the contexts of these keys are closed, each under its own key, and each note that one of them owes is had by the context of its key
 pub record Closed (n : Normal) (keys : List (List ℕ)) (state : List ℕ → State) : Type 0 where

@@ -3,12 +3,12 @@ use Rattle.std.specs.Prelude.{◌≡◌, ℕ, Bool, List, [], ◌∷◌}
 use Rattle.cd_base.specs.Keys.{plain}
 use Rattle.cd_base.specs.Lists.{Member}
 use Rattle.cd_base.specs.declared.normal.Normal.{Normal}
-use Rattle.cd_actor.specs.Cells.{At, AreCells, Had}
+use Rattle.cd_model.specs.Canonical.{IsClosure, RolesInRange}
+use Rattle.cd_model.specs.Exactness.{Exact}
 use Rattle.cd_context.specs.State.{State, live_of}
 use Rattle.cd_context.specs.declared.facts.Note.{Note}
-use Rattle.cd_cell.specs.Canonical.{IsClosure, RolesInRange}
+use Rattle.cd_actor.specs.Cells.{At, AreCells, Had}
 use Rattle.cd_cell.specs.Cells.{CellState, OwesFrom, meaning}
-use Rattle.cd_cell.specs.Exactness.{Exact}
 
 -- whole cells for these normal axioms, one at each place, where each note that one of them owes is had by its cell
 pub record AreClosed (n : Normal) (cells : List CellState) : Type 0 where

@@ -1,11 +1,8 @@
-pub mod Canonical
 pub mod Cells
 pub mod Closed
 pub mod ClosedCells
 pub mod Counts
-pub mod Exactness
 pub mod Lawful
-pub mod Saturated
 pub mod Sending
 pub mod Subsumers
 pub mod Telling

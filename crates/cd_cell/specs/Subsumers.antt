@@ -7,7 +7,7 @@ use Rattle.cd_base.specs.declared.answer.Answer.{Answer}
 use Rattle.cd_base.specs.declared.answer.Answer.TheVariants.{Unsatisfiable, Of}
 use Rattle.cd_base.specs.declared.normal.Normal.{Normal}
 use Rattle.cd_clause.specs.declared.elem.Elem.{Elem}
-use Rattle.cd_context.specs.Calls.{IsSingle}
+use Rattle.cd_clause.specs.Derivations.{IsSingle}
 use Rattle.cd_context.specs.State.{State, live_of}
 
 -- the class is unsatisfiable exactly where the empty clause is live, and else it is below the named atoms whose clause alone is live,

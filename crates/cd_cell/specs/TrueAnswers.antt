@@ -1,31 +1,18 @@
--- Answers that are so in every model.
-use Rattle.std.specs.Prelude.{◌≡◌, ◌↔◌, ℕ, Bool, true, List}
-use Rattle.std.specs.List.Sorted.{IsStrictlyIncreasing}
-use Rattle.cd_base.specs.Keys.{is_named}
-use Rattle.cd_base.specs.Lists.{Member}
+-- What closed cells answer is so in every model.
+use Rattle.std.specs.Prelude.{◌≡◌, ℕ, Bool, List}
 use Rattle.cd_base.specs.declared.answer.Answer.{Answer}
-use Rattle.cd_base.specs.declared.answer.Answer.TheVariants.{Unsatisfiable, Of}
 use Rattle.cd_base.specs.declared.normal.Normal.{Normal}
+use Rattle.cd_model.specs.Canonical.{IsClosure, RolesInRange}
+use Rattle.cd_model.specs.TrueAnswers.{IsTrueAnswer}
 use Rattle.cd_actor.specs.Cells.{At}
-use Rattle.cd_cell.specs.Canonical.{IsClosure, RolesInRange}
 use Rattle.cd_cell.specs.Cells.{CellState}
 use Rattle.cd_cell.specs.ClosedCells.{AreClosed}
-use Rattle.cd_cell.specs.Exactness.{NoneIn, AllIn}
 use Rattle.cd_cell.specs.Subsumers.{HasContext, IsSubsumers}
-
--- the class has no element in any model; or it has one in some, and the atoms ascend and are the named ones that have each of its elements in every model
-abbrev pub IsTrueAnswer : Normal → ℕ → Answer → Type 0
-IsTrueAnswer n a Unsatisfiable = NoneIn n a
-IsTrueAnswer n a (Of atoms) = (NoneIn n a → ⊥) × IsStrictlyIncreasing atoms × ((b : ℕ) → Member b atoms ↔ ((is_named n b ≡ true) × AllIn n a b))
 
 -- where the cell is one of closed cells, the answer is true
 abbrev pub IsExactIn : CellState → ℕ → Answer → Type 0
 IsExactIn cell a answer = (below : ℕ → ℕ → Bool) → IsClosure cell.normal below → RolesInRange cell.normal → (cells : List CellState) → AreClosed cell.normal cells
     → (i : ℕ) → At cells i cell → IsTrueAnswer cell.normal a answer
-
--- a class has one true answer
-abbrev pub OneTrueAnswer : Type 0
-OneTrueAnswer = (n : Normal) (a : ℕ) (x y : Answer) → IsTrueAnswer n a x → IsTrueAnswer n a y → x ≡ y
 
 -- any two lists of closed cells for the same normal axioms, in which the class has a context, give one answer for it: so whatever the order of
 -- delivery and the number of cells, runs to their end give the same answers

@@ -5,4 +5,3 @@ pub mod Elements
 pub mod Eligibles
 pub mod Merged
 pub mod Order
-pub mod Sound

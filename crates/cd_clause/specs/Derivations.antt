@@ -1,14 +1,11 @@
--- Derivations, what can be reached, and that what is derived is true.
-use Rattle.std.specs.Prelude.{◌≡◌, ℕ, ◌<◌, true, List, [], ◌∷◌}
-use Rattle.cd_base.specs.Lists.{Member, Within}
+-- Derivations, what can be reached, and what a list of clauses has of one clause.
+use Rattle.std.specs.Prelude.{◌≡◌, ℕ, true, List, [], ◌∷◌}
+use Rattle.cd_base.specs.Lists.{Member, Within, SameSet}
 use Rattle.cd_base.specs.Keys.{plain, is_named}
 use Rattle.cd_base.specs.declared.normal.Normal.{Normal}
-use Rattle.cd_meaning.specs.declared.interpretation.Interpretation.{Interpretation}
-use Rattle.cd_meaning.specs.NormalAxioms.{IsNormalModel}
 use Rattle.cd_clause.specs.declared.elem.Elem.{Elem}
 use Rattle.cd_clause.specs.declared.elem.Elem.TheVariants.{Plain, Exist}
 use Rattle.cd_clause.specs.Elements.{Eligible}
-use Rattle.cd_clause.specs.Meaning.{Meets, TrueClause}
 use Rattle.cd_clause.specs.Rules.{Concludes}
 
 -- a clause in the context of a key
@@ -44,7 +41,6 @@ HasDerived n k e = (c : List Elem) × Derived n k c × Eligible n e c
 abbrev pub Redundant : List (List Elem) → List Elem → Type 0
 Redundant live d = (c : List Elem) × Member c live × Within c d
 
--- what is derived in the context of a key is true of each element that meets the key, in every model of the normal axioms
-abbrev pub Soundness : Type 0
-Soundness = (n : Normal) (key : List ℕ) (clause : List Elem) → Derived n key clause
-    → (i : Interpretation) → IsNormalModel n i → (x : ℕ) → x < i.size → Meets i x key → TrueClause i x clause
+-- one of the live clauses is that of the atom alone
+abbrev pub IsSingle : List (List Elem) → ℕ → Type 0
+IsSingle live b = (c : List Elem) × Member c live × SameSet c (Plain b ∷ [])

@@ -1,7 +1,6 @@
 pub mod Derivations
 pub mod Dictionary
 pub mod Elements
-pub mod Meaning
 pub mod Merged
 pub mod Numbers
 pub mod Rules

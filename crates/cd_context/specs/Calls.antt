@@ -1,19 +1,14 @@
 -- What the calls of a context come to.
-use Rattle.std.specs.Prelude.{◌≡◌, ℕ, ◌<◌, ◌⊎◌, true, List, [], ◌∷◌, ◌++◌}
+use Rattle.std.specs.Prelude.{◌≡◌, ◌<◌, ◌⊎◌, true, List, ◌++◌}
 use Rattle.cd_base.specs.Appends.{Appends, AppendsOnce}
-use Rattle.cd_base.specs.Lists.{Member, SameSet}
+use Rattle.cd_base.specs.Lists.{Member}
 use Rattle.cd_base.specs.declared.normal.Normal.{Normal}
 use Rattle.cd_clause.specs.declared.elem.Elem.{Elem}
-use Rattle.cd_clause.specs.declared.elem.Elem.TheVariants.{Plain}
 use Rattle.cd_context.specs.declared.facts.Fact.{Fact}
 use Rattle.cd_context.specs.declared.facts.Note.{Note}
 use Rattle.cd_context.specs.Facts.{has_fact, count}
 use Rattle.cd_context.specs.Owes.{Owes}
 use Rattle.cd_context.specs.State.{State}
-
--- one of the live clauses is that of the atom alone
-abbrev pub IsSingle : List (List Elem) → ℕ → Type 0
-IsSingle live b = (c : List Elem) × Member c live × SameSet c (Plain b ∷ [])
 
 -- the new state has the key, the clauses and the facts of the old one, with more of each or not
 pub record Grows (old new : State) : Type 0 where

@@ -2,9 +2,9 @@
 ghost use Rattle.std.specs.Prelude.{◌≡◌, ◌↔◌, ◌<◌, ◌⊎◌, ℕ, [], true, false, IsOk, IfOk, OnOk, OnErr};
 ghost use Rattle.std.specs.List.Sorted.{IsStrictlyIncreasing};
 ghost use Rattle.cd_base.specs.Lists.{Member};
-ghost use Rattle.cd_clause.specs.Derivations.{Reachable};
+ghost use Rattle.cd_clause.specs.Derivations.{Reachable, IsSingle};
 ghost use Rattle.cd_context.specs.Absorbing.{Keeps, Absorbs};
-ghost use Rattle.cd_context.specs.Calls.{IsSingle, Grows, GainsOnly, Sends, ListsOwed};
+ghost use Rattle.cd_context.specs.Calls.{Grows, GainsOnly, Sends, ListsOwed};
 ghost use Rattle.cd_base.specs.Counts.{last};
 ghost use Rattle.cd_context.specs.Facts.{has_fact, count};
 ghost use Rattle.cd_context.specs.Justified.{Justified, IsContext, ClosedLocally};

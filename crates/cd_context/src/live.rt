@@ -4,7 +4,7 @@ ghost use Rattle.std.specs.List.Sorted.{IsStrictlyIncreasing};
 ghost use Rattle.cd_base.specs.Lists.{Member, SameSet};
 ghost use Rattle.cd_clause.specs.Numbers.{picked};
 ghost use Rattle.cd_clause.specs.declared.elem.Elem.TheVariants.{Plain};
-ghost use Rattle.cd_context.specs.Calls.{IsSingle};
+ghost use Rattle.cd_clause.specs.Derivations.{IsSingle};
 ghost use Rattle.cd_context.specs.Only.{is_only};
 ghost use Rattle.cd_store.specs.Store.{IsStore};
 

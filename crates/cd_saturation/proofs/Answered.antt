@@ -6,10 +6,10 @@ use Rattle.cd_base.specs.declared.answer.Answer.{Answer}
 use Rattle.cd_base.specs.declared.answer.Answer.TheVariants.{Unsatisfiable}
 use Rattle.cd_base.specs.declared.limit_kind.LimitKind.{LimitKind}
 use Rattle.cd_base.specs.declared.normal.Normal.{Normal}
-use Rattle.cd_cell.specs.Canonical.{RolesInRange}
+use Rattle.cd_model.specs.Canonical.{RolesInRange}
 use Rattle.cd_cell.specs.Cells.{CellState}
 use Rattle.cd_cell.specs.ClosedCells.{AreClosed}
-use Rattle.cd_cell.specs.Exactness.{Exact}
+use Rattle.cd_model.specs.Exactness.{Exact}
 use Rattle.cd_cell.specs.Subsumers.{IsAnswerOf}
 use Rattle.cd_cell.proofs.CellAnswers.{cell_exactness}
 use Rattle.cd_context.specs.State.{State, live_of}

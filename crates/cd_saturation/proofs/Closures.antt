@@ -7,7 +7,7 @@ use Rattle.cd_base.specs.declared.normal.Normal.{Normal}
 use Rattle.cd_base.specs.declared.normal.RolePair.{RolePair}
 use Rattle.cd_base.specs.declared.normal.Triple.{Triple}
 use Rattle.cd_base.proofs.Members.{all_member}
-use Rattle.cd_cell.specs.Canonical.{RolesInRange}
+use Rattle.cd_model.specs.Canonical.{RolesInRange}
 use Rattle.cd_index.specs.Closure.{is_under, IsClosureOf}
 use Rattle.cd_saturation.specs.Saturation.{HasClosure}
 

@@ -10,7 +10,7 @@ use Rattle.cd_base.specs.declared.answer.Answer.TheVariants.{Unsatisfiable, Of}
 use Rattle.cd_base.specs.declared.normal.Normal.{Normal}
 use Rattle.cd_base.proofs.Members.{all_from_member, any_member, any_by_member}
 use Rattle.cd_clause.specs.declared.elem.Elem.{Elem}
-use Rattle.cd_cell.specs.Exactness.{Exact, NoneIn, AllIn}
+use Rattle.cd_model.specs.Exactness.{Exact, NoneIn, AllIn}
 use Rattle.cd_cell.specs.Subsumers.{IsAnswerOf}
 use Rattle.cd_meaning.specs.Answer.{Decides}
 use Rattle.cd_meaning.specs.Entailment.{Entails}

@@ -7,7 +7,7 @@ use Rattle.cd_base.specs.declared.normal.Normal.{Normal}
 use Rattle.cd_actor.specs.Cells.{At}
 use Rattle.cd_context.specs.declared.facts.Fact.TheVariants.{Start}
 use Rattle.cd_context.specs.declared.facts.Note.{Note}
-use Rattle.cd_cell.specs.Canonical.{IsClosure}
+use Rattle.cd_model.specs.Canonical.{IsClosure}
 use Rattle.cd_cell.specs.Cells.{CellState, place_of}
 use Rattle.cd_cell.specs.Subsumers.{HasContext, IsSubsumers}
 

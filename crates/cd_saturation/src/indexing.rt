@@ -1,6 +1,6 @@
 //! From a document to its normal axioms by atom.
 ghost use Rattle.std.specs.Prelude.{◌<◌, ◌-◌, ◌+◌, ◌*◌, ◌^◌, length, IfOk};
-ghost use Rattle.cd_cell.specs.Canonical.{RolesInRange};
+ghost use Rattle.cd_model.specs.Canonical.{RolesInRange};
 ghost use Rattle.cd_meaning.specs.Nodes.{nodes};
 ghost use Rattle.cd_normal.specs.Method.{IsByMethod};
 ghost use Rattle.cd_saturation.specs.Saturation.{HasClosure};

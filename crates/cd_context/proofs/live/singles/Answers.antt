@@ -7,7 +7,7 @@ use Rattle.cd_clause.specs.Numbers.{picked}
 use Rattle.cd_clause.specs.declared.elem.Elem.{Elem}
 use Rattle.cd_clause.specs.declared.elem.Elem.TheVariants.{Plain}
 use Rattle.cd_rules.proofs.Gathered.{gather_all, gather_goes}
-use Rattle.cd_context.specs.Calls.{IsSingle}
+use Rattle.cd_clause.specs.Derivations.{IsSingle}
 use Rattle.cd_context.proofs.Singles.{StandsAlone, alone_somewhere}
 use Rattle.cd_context.proofs.live.singles.Goals as goal
 

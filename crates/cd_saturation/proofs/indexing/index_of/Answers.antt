@@ -1,5 +1,5 @@
 use Rattle.std.proofs.Common.{sym, subst}
-use Rattle.cd_cell.specs.Canonical.{RolesInRange}
+use Rattle.cd_model.specs.Canonical.{RolesInRange}
 use Rattle.cd_index.specs.Closure.{IsClosureOf}
 use Rattle.cd_saturation.specs.Saturation.{HasClosure}
 use Rattle.cd_saturation.proofs.Closures.{has_closure, roles_within}

@@ -3,7 +3,7 @@ use Rattle.std.specs.Result.{IfOk}
 use Rattle.cd_base.specs.Lists.{Member}
 use Rattle.cd_clause.specs.Numbers.{picked}
 use Rattle.cd_clause.specs.declared.elem.Elem.{Elem}
-use Rattle.cd_context.specs.Calls.{IsSingle}
+use Rattle.cd_clause.specs.Derivations.{IsSingle}
 use Rattle.cd_context.specs.State.{State, live_of}
 use Rattle.cd_context.proofs.context.Context.singles.Goals as goal
 

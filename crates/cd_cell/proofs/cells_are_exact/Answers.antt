@@ -1,5 +1,0 @@
-use Rattle.cd_cell.proofs.CellAnswers.{cell_exactness}
-use Rattle.cd_cell.proofs.cells_are_exact.Goals as goal
-
-pub returns : goal.returns
-returns c = cell_exactness

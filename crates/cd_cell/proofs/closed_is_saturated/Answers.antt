@@ -1,5 +1,0 @@
-use Rattle.cd_cell.proofs.Saturating.{saturation}
-use Rattle.cd_cell.proofs.closed_is_saturated.Goals as goal
-
-pub returns : goal.returns
-returns c = saturation

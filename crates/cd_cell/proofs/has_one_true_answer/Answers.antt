@@ -1,5 +1,0 @@
-use Rattle.cd_cell.proofs.TrueAnswers.{one_true_answer}
-use Rattle.cd_cell.proofs.has_one_true_answer.Goals as goal
-
-pub returns : goal.returns
-returns c = one_true_answer

@@ -1,0 +1,180 @@
+-- The canonical interpretation is a model: what is chosen in saturated contexts obeys each rule, and so its elements and edges each axiom.
+-- And the whole of completeness.
+use Rattle.std.proofs.Common.{◌≡◌, ℕ, Bool, false, List, [], ◌∷◌, ◌++◌, map, refl, subst, inl, inr, arith}
+use Rattle.cd_base.specs.Lists.{Member, SameSet}
+use Rattle.cd_base.specs.declared.normal.Normal.{Normal}
+use Rattle.cd_base.specs.declared.normal.Conj.{Conj}
+use Rattle.cd_base.specs.declared.normal.Triple.{Triple}
+use Rattle.cd_base.specs.Normal.{Under, same, step}
+use Rattle.cd_base.specs.Keys.{plain, negated, key_with}
+use Rattle.cd_base.proofs.Members.{member_cases, map_member}
+use Rattle.cd_base.proofs.Keys.{key_with_new, key_with_old}
+use Rattle.cd_clause.specs.declared.elem.Elem.{Elem}
+use Rattle.cd_clause.specs.declared.elem.Elem.TheVariants.{Plain, Exist}
+use Rattle.cd_clause.specs.Elements.{Eligible, rest}
+use Rattle.cd_clause.specs.Rules.{Rests, Concludes, by_init, by_neg, by_con, by_ex, by_back, by_dead, by_all}
+use Rattle.cd_model.specs.Canonical.{Listing, chosen, has_empty, canonical, IsClosure, RolesInRange, Open}
+use Rattle.cd_model.specs.Saturated.{Saturated}
+use Rattle.cd_model.proofs.Listings.{IsListedCounter, Holds, Is}
+use Rattle.cd_model.proofs.Choice.{Made, made, hits_redundant, empty_from_none, least_single}
+use Rattle.cd_model.proofs.Maximal.{Maximal, maximal_superset}
+use Rattle.cd_model.proofs.Elements.{At, at_find, at_one, at_below, element_at, is_from, is_at, goes_from, goes_at}
+
+module _ (n : Normal) (keys : List (List ℕ)) (live : List ℕ → List (List Elem)) (sat : Saturated n keys live) (least : ℕ) where
+  abbrev Ch : List ℕ → List Elem
+  Ch k = chosen n least (live k)
+
+  abbrev Rule : List ℕ → List Elem → Type 0
+  Rule h d = Concludes n h (λ c. Member c (live h)) (λ r k a. Member k keys × ((c : List Elem) × Member c (live k) × Eligible n (Plain a) c)) (λ r k. Member k keys × Member [] (live k)) d
+
+  -- each conclusion of a rule has an element that is chosen
+  rule_hits : (h : List ℕ) → Member h keys → has_empty (live h) ≡ false → (d : List Elem) → Rule h d → (e : Elem) × Member e d × Member e (Ch h)
+  rule_hits h m o d r = hits_redundant n least (live h) o d (sat.closed h m d r)
+
+  module _ (h : List ℕ) (known : Member h keys) (o : has_empty (live h) ≡ false) where
+    same_set : (d : List Elem) → SameSet d d
+    same_set d = (λ x m. m, λ x m. m)
+
+    init_chosen : (a : ℕ) → Member (plain a) h → Member (Plain a) (Ch h)
+    init_chosen a m =
+        let r = rule_hits h known o (Plain a ∷ []) (by_init a m (same_set (Plain a ∷ []))) in
+        elim r.1 [ inl q ↦ subst (λ z. Member z (Ch h)) q r.2 | inr z ↦ absurd z ]
+
+    neg_not : (a : ℕ) → Member (negated a) h → Member (Plain a) (Ch h) → ⊥
+    neg_not a m c =
+        let w : Made n (Ch h) (live h) (Plain a) = made n least (live h) o (Plain a) c in
+        let r = rule_hits h known o (rest (Plain a) w.clause) (by_neg a w.clause w.isin w.eligible m (same_set (rest (Plain a) w.clause))) in
+        w.rest_not r.0 r.1 r.2
+
+    rests_for : (left : List ℕ) → ((a : ℕ) → Member a left → Member (Plain a) (Ch h)) → (m : List Elem) × Rests n (λ c. Member c (live h)) left m × ((f : Elem) → Member f m → Member f (Ch h) → ⊥)
+    rests_for [] t = ([], refl, λ f k. absurd k)
+    rests_for (a ∷ left) t =
+        let w : Made n (Ch h) (live h) (Plain a) = made n least (live h) o (Plain a) (t a (inl refl)) in
+        let r = rests_for left (λ b k. t b (inr k)) in (
+          rest (Plain a) w.clause ++ r.0,
+          (w.clause, w.isin, w.eligible, record { tail = r.0; rests = r.1; is = refl }),
+          λ f k c. elim (member_cases f (rest (Plain a) w.clause) r.0 k) [ inl p ↦ w.rest_not f p c | inr q ↦ r.2 f q c ],
+        )
+
+    con_chosen : (x : Conj) → Member x n.n1 → ((a : ℕ) → Member a x.left → Member (Plain a) (Ch h)) → (b : ℕ) × Member b x.right × Member (Plain b) (Ch h)
+    con_chosen x m t =
+        let s = rests_for x.left t in
+        let r = rule_hits h known o (s.0 ++ map Plain x.right) (by_con x s.0 m s.1 (same_set (s.0 ++ map Plain x.right))) in
+        elim (member_cases r.0 s.0 (map Plain x.right) r.1) [
+          | inl p ↦ absurd (s.2 r.0 p r.2)
+          | inr q ↦ (let b = map_member Plain r.0 x.right q in (b.0, b.1, subst (λ z. Member z (Ch h)) b.2 r.2))
+        ]
+
+    reach : (r : ℕ) (k : List ℕ) → Member (Exist r k) (Ch h) → Member k keys × (has_empty (live k) ≡ false)
+    reach r k c =
+        let w : Made n (Ch h) (live h) (Exist r k) = made n least (live h) o (Exist r k) c in
+        let known' : Member k keys = sat.reached h known w.clause w.isin r k w.eligible in (
+          known',
+          empty_from_none (live k) (λ z.
+              let s = rule_hits h known o (rest (Exist r k) w.clause) (by_dead w.clause r k w.isin w.eligible (known', z) (same_set (rest (Exist r k) w.clause))) in
+              w.rest_not s.0 s.1 s.2),
+        )
+
+    ex_chosen : (t : Triple) → Member t n.n2 → Member (Plain t.atom) (Ch h) → Member (Exist t.role (plain t.other ∷ [])) (Ch h)
+    ex_chosen t m c =
+        let w : Made n (Ch h) (live h) (Plain t.atom) = made n least (live h) o (Plain t.atom) c in
+        let r = rule_hits h known o (Exist t.role (plain t.other ∷ []) ∷ rest (Plain t.atom) w.clause) (by_ex t w.clause m w.isin w.eligible (same_set (Exist t.role (plain t.other ∷ []) ∷ rest (Plain t.atom) w.clause))) in
+        elim r.1 [ inl q ↦ subst (λ z. Member z (Ch h)) q r.2 | inr p ↦ absurd (w.rest_not r.0 p r.2) ]
+
+    all_chosen : (t : Triple) → Member t n.n4 → (r : ℕ) (k : List ℕ) → Member (Exist r k) (Ch h) → Maximal r k (Ch h) → Under n.n5 r t.role → Member (Plain t.atom) (Ch h) → Member (plain t.other) k
+    all_chosen t m r k c max u a =
+        let w : Made n (Ch h) (live h) (Exist r k) = made n least (live h) o (Exist r k) c in
+        let v : Made n (Ch h) (live h) (Plain t.atom) = made n least (live h) o (Plain t.atom) a in
+        let more : List ℕ = key_with (plain t.other) k in
+        let d : List Elem = Exist r more ∷ (rest (Exist r k) w.clause ++ rest (Plain t.atom) v.clause) in
+        let s = rule_hits h known o d (by_all t w.clause v.clause r k m w.isin w.eligible v.isin v.eligible u (same_set d)) in
+        elim s.1 [
+          | inl q ↦ max more (subst (λ z. Member z (Ch h)) q s.2) (λ x j. key_with_old (plain t.other) x k j) (plain t.other) (key_with_new (plain t.other) k)
+          | inr p ↦ elim (member_cases s.0 (rest (Exist r k) w.clause) (rest (Plain t.atom) v.clause) p) [
+            | inl j ↦ absurd (w.rest_not s.0 j s.2)
+            | inr j ↦ absurd (v.rest_not s.0 j s.2)
+          ]
+        ]
+
+  back_chosen : (h : List ℕ) → Member h keys → has_empty (live h) ≡ false → (t : Triple) → Member t n.n3 → (r : ℕ) (k : List ℕ) → Member (Exist r k) (Ch h) → Maximal r k (Ch h) → Under n.n5 r t.role → Member (Plain t.atom) (Ch k) → Member (Plain t.other) (Ch h)
+  back_chosen h known o t m r k c max u a =
+      let w : Made n (Ch h) (live h) (Exist r k) = made n least (live h) o (Exist r k) c in
+      let kn = reach h known o r k c in
+      let v : Made n (Ch k) (live k) (Plain t.atom) = made n least (live k) kn.1 (Plain t.atom) a in
+      let more : List ℕ = key_with (negated t.atom) k in
+      let d : List Elem = Plain t.other ∷ Exist r more ∷ rest (Exist r k) w.clause in
+      let s = rule_hits h known o d (by_back t w.clause r k m w.isin w.eligible (kn.0, (v.clause, v.isin, v.eligible)) u (λ x j. j, λ x j. j)) in
+      elim s.1 [
+        | inl q ↦ subst (λ z. Member z (Ch h)) q s.2
+        | inr p ↦ elim p [
+          | inl q ↦ absurd (neg_not k kn.0 kn.1 t.atom (max more (subst (λ z. Member z (Ch h)) q s.2) (λ x j. key_with_old (negated t.atom) x k j) (negated t.atom) (key_with_new (negated t.atom) k)) a)
+          | inr j ↦ absurd (w.rest_not s.0 j s.2)
+        ]
+      ]
+
+module _ (n : Normal) (below : ℕ → ℕ → Bool) (closure : IsClosure n below) (roles : RolesInRange n) (keys : List (List ℕ)) (live : List ℕ → List (List Elem)) (sat : Saturated n keys live) (least : ℕ) where
+  abbrev M : Listing
+  M = canonical n below keys live least
+
+  -- the key of an element in an atom, by the element's own key
+  is_chosen : (a x : ℕ) (k : List ℕ) → At n below keys live least x k → Is M a x → Member (Plain a) (chosen n least (live k))
+  is_chosen a x k p i =
+      let r = is_at n below keys live least a x i in
+      subst (λ z. Member (Plain a) (chosen n least (live z))) (at_one n below keys live least x r.0 k r.1 p) r.2
+
+  model_holds : Holds n M
+  model_holds = record {
+    n1 = λ c m x l t. let p = element_at n below keys live least x l in
+        let r = con_chosen n keys live sat least p.0 p.1.known p.1.open_still c m (λ a k. is_chosen a x p.0 p.1 (t a k)) in
+        (r.0, r.1, is_from n below keys live least r.0 x p.0 p.1 r.2);
+    n2 = λ t m x i. let p = is_at n below keys live least t.atom x i in
+        let e = ex_chosen n keys live sat least p.0 p.1.known p.1.open_still t m p.2 in
+        let s = maximal_superset t.role (plain t.other ∷ []) (chosen n least (live p.0)) e in
+        let kn = reach n keys live sat least p.0 p.1.known p.1.open_still t.role s.0 s.1 in
+        let y = at_find n below keys live least s.0 kn.0 kn.1 in (
+          y.0,
+          goes_from n below keys live least t.role x y.0 (roles.n2 t m) (record { lower = t.role; from = p.0; to = s.0; source = p.1; target = y.1; above = closure.all t.role t.role same; picked = s.1; maximal = s.3 }),
+          is_from n below keys live least t.other y.0 s.0 y.1 (init_chosen n keys live sat least s.0 kn.0 kn.1 t.other (s.2 (plain t.other) (inl refl))),
+        );
+    n3 = λ t m x y g i. let e = goes_at n below keys live least t.role x y g in
+        is_from n below keys live least t.other x e.from e.source
+        (back_chosen n keys live sat least e.from e.source.known e.source.open_still t m e.lower e.to e.picked e.maximal (closure.only e.lower t.role e.above) (is_chosen t.atom y e.to e.target i));
+    n4 = λ t m x y i g. let e = goes_at n below keys live least t.role x y g in
+        is_from n below keys live least t.other y e.to e.target
+        (init_chosen n keys live sat least e.to e.target.known e.target.open_still t.other
+        (all_chosen n keys live sat least e.from e.source.known e.source.open_still t m e.lower e.to e.picked e.maximal (closure.only e.lower t.role e.above) (is_chosen t.atom x e.from e.source i)));
+    n5 = λ p m x y g. let e = goes_at n below keys live least p.lower x y g in
+        goes_from n below keys live least p.higher x y (roles.n5 p m) (record {
+          lower = e.lower;
+          from = e.from;
+          to = e.to;
+          source = e.source;
+          target = e.target;
+          above = closure.all e.lower p.higher (step p (closure.only e.lower p.lower e.above) m refl);
+          picked = e.picked;
+          maximal = e.maximal;
+        });
+  }
+
+pub complete : (n : Normal) (below : ℕ → ℕ → Bool) → IsClosure n below → RolesInRange n → (keys : List (List ℕ)) (live : List ℕ → List (List Elem)) → Saturated n keys live → (a : ℕ) → Open keys live a → (b : ℕ) → IsListedCounter n (canonical n below keys live b) keys live b
+complete n below closure roles keys live sat a open' b =
+    let kn : has_empty (live (plain a ∷ [])) ≡ false = empty_from_none (live (plain a ∷ [])) open'.open_still in
+    let x0 = at_find n below keys live b (plain a ∷ []) open'.here kn in
+    record {
+      range = record {
+        some = let l = at_below n below keys live b x0.0 (plain a ∷ []) x0.1 in omega arith;
+        elements = λ c x i. let p = is_at n below keys live b c x i in at_below n below keys live b x p.0 p.1;
+        sources = λ r x y g. let e = goes_at n below keys live b r x y g in at_below n below keys live b x e.from e.source;
+        targets = λ r x y g. let e = goes_at n below keys live b r x y g in at_below n below keys live b y e.to e.target;
+      };
+      holds = model_holds n below closure roles keys live sat b;
+      element = λ c oc.
+          let kc : has_empty (live (plain c ∷ [])) ≡ false = empty_from_none (live (plain c ∷ [])) oc.open_still in
+          let x = at_find n below keys live b (plain c ∷ []) oc.here kc in
+          record {
+            x = x.0;
+            below = at_below n below keys live b x.0 (plain c ∷ []) x.1;
+            isin = is_from n below keys live b c x.0 (plain c ∷ []) x.1 (init_chosen n keys live sat b (plain c ∷ []) oc.here kc c (inl refl));
+            only_single = λ named i. least_single n b (live (plain c ∷ [])) kc named (is_chosen n below closure roles keys live sat b b x.0 (plain c ∷ []) x.1 i);
+          };
+    }
