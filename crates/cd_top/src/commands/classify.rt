@@ -1,47 +1,40 @@
-//! The classify command, but for the notes.
-ghost use Rattle.std.specs.Prelude.{◌≡◌, ◌≤◌, ◌<◌, ◌+◌, true, false, length, List, ℕ, Some, Err, [], IfSome, IfOk, OnOk, OnErr, IsErrOf};
-ghost use Rattle.std.specs.Io.KnownBytes.{Appends};
-ghost use Rattle.cd_io.specs.Causes.{Rose, HasCause};
-ghost use Rattle.cd_io.specs.Streams.{AppendsFront, LosesAtMost};
-ghost use Rattle.cd_top.specs.Headline.{IsAnswered, IsClassified, IsLimited, IsPartlyAnswered};
+//! The classify command: the answer to the input.
+ghost use Rattle.std.specs.Prelude.{◌≡◌, ◌≤◌, ◌<◌, ◌+◌, true, false, length, ℕ, Some, Err, [], IfSome, IfOk, OnOk, IsErrOf};
+ghost use Rattle.cd_base.specs.declared.limit_kind.LimitKind.{LimitKind};
 ghost use Rattle.cd_grammar.specs.Refusal.{IsRefused};
 ghost use Rattle.cd_grammar.specs.declared.refusal.Refusal.{Refusal};
-ghost use Rattle.cd_base.specs.declared.limit_kind.LimitKind.{LimitKind};
-ghost use Rattle.cd_top.specs.Status.{IsEarly};
+ghost use Rattle.cd_io.specs.Causes.{Rose};
+ghost use Rattle.cd_io.specs.Streams.{LosesAtMost};
+ghost use Rattle.cd_top.specs.Headline.{IsAnswered, IsClassified, IsLimited};
+ghost use Rattle.cd_top.specs.Promises.{IsClassifiedBy};
+ghost use Rattle.cd_top.specs.Status.{line_of, IsEarly, IsNoted};
 
 use crate::answer::answer_to;
+use crate::conclude::conclude;
 use crate::status::Status;
-use cd_base::{LimitKind, Limits};
-use cd_grammar::{ReadRefusal, Refusal, read_document};
-use cd_io::{Sink, Source, WriteFault, write_all};
-use cd_saturation::Halt;
+use crate::stop::Stop;
+use cd_base::Limits;
+use cd_grammar::read_document;
+use cd_io::{Sink, Source};
 use std::alloc::Global;
-use thiserror::Error;
 
-/// Why there is no text to write.
-#[derive(Clone, Copy, Debug, PartialEq, Eq, Error)]
-enum Stop {
-    #[error("{0}")]
-    Refused(Refusal),
-    #[error("the maximum was reached ({0:?}: {1})")]
-    Limit(LimitKind, u64),
-    #[error("reading failed")]
-    ReadFault,
-    #[error("out of memory")]
-    Memory,
-}
-
-/// Reads the input and writes its answer. Nothing is written before the whole answer is there. Costs what `classify_here` does.
-pub(crate) fn classify<S: Source, K: Sink>(
+/// The classify command on one thread: it waits for nobody and always returns.
+///
+/// Linear in the bytes of the input and of the answer, and near linear in the sum of the numbers of superclasses of all classes, beside
+/// the rules for each clause of each context (`cd_context`), of which there can be exponentially many in the axioms.
+pub fn classify_here<S: Source, K: Sink, E: Sink>(
     alloc: Global,
     source: &mut S,
     out: &mut K,
+    notes: &mut E,
     limits: &Limits,
 ) -> Status
-    // The input was an accepted document, read to its end, and exactly one text was written: its answer.
+    // The headline: the input was an accepted document, read to its end, and exactly one text was written: its answer.
     ensures done { IfSome (S.left source.old) (λ input. result ≡ Status.Done →
         IsClassified input limits.now.max_bytes (S.left source.new) (K.written out.old) (K.written out.new)) }
-    ensures ended { result ≡ Status.Done → (S.ended source.new ≡ true) × (K.finished out.new ≡ true) }
+    ensures finished { result ≡ Status.Done → K.finished out.new ≡ true }
+    ensures kept { IsClassifiedBy limits.now.max_bytes limits.now.max_contexts limits.now.max_facts (S.left source.old) (S.ended source.new)
+        (Rose (S.faults source.old) (S.faults source.new)) (Rose (K.faults out.old) (K.faults out.new)) (K.written out.old) (K.written out.new) result }
 
     // Each other status has its cause.
     ensures usage { result ≡ Status.Usage → ⊥ }
@@ -51,25 +44,15 @@ pub(crate) fn classify<S: Source, K: Sink>(
     ensures unfinished { result ≡ Status.WriteFault → K.finished out.new ≡ false }
     ensures refused { IfSome (S.left source.old) (λ input. (refusal : Refusal) → result ≡ Status.Refused refusal
         → IsRefused input limits.now.max_bytes refusal) }
-    ensures limit { IfSome (S.left source.old) (λ input. (kind : LimitKind) (number : ℕ) → result ≡ Status.Limit kind number
-        → IsLimited input limits.now.max_bytes limits.now.max_contexts limits.now.max_facts kind number) }
 
     // What stands after it.
     ensures taken { LosesAtMost (S.left source.old) (S.left source.new) (limits.now.max_bytes + 1) }
     ensures unwritten { IsEarly result → out.new ≡ out.old }
-    ensures partly { IfSome (S.left source.old) (λ input. result ≡ Status.WriteFault →
-        IsPartlyAnswered input limits.now.max_bytes (K.written out.old) (K.written out.new)) }
+    ensures noted { IsNoted (E.written notes.old) (E.written notes.new) (E.faults notes.old) (E.faults notes.new) (line_of result) }
+    ensures quiet { result ≡ Status.Done → notes.new ≡ notes.old }
 {
-    match answer_of(alloc, source, limits) {
-        Ok(text) => match publish(out, &text) {
-            Ok(()) => Status::Done,
-            Err(_) => Status::WriteFault,
-        },
-        Err(Stop::Refused(refusal)) => Status::Refused(refusal),
-        Err(Stop::Limit(kind, number)) => Status::Limit(kind, number),
-        Err(Stop::ReadFault) => Status::ReadFault,
-        Err(Stop::Memory) => Status::Memory,
-    }
+    let found = answer_of(alloc, source, limits);
+    conclude(out, notes, found)
 }
 
 /// The answer to all that a source has left. Linear in these bytes, and then what the answer costs, as at `classify_here`.
@@ -79,6 +62,7 @@ fn answer_of<S: Source>(alloc: Global, source: &mut S, limits: &Limits) -> Resul
     ensures some { IfOk result (λ text. 0 < length text.items) }
     ensures ended { OnOk result (S.ended source.new ≡ true) }
     ensures taken { LosesAtMost (S.left source.old) (S.left source.new) (limits.now.max_bytes + 1) }
+    ensures usage { IsErrOf result Stop.Usage → ⊥ }
     ensures read_fault { IsErrOf result Stop.ReadFault → Rose (S.faults source.old) (S.faults source.new) }
     ensures unended { IsErrOf result Stop.ReadFault → S.ended source.new ≡ false }
     ensures refused { IfSome (S.left source.old) (λ input. (refusal : Refusal) → result ≡ Err (Stop.Refused refusal)
@@ -86,30 +70,7 @@ fn answer_of<S: Source>(alloc: Global, source: &mut S, limits: &Limits) -> Resul
     ensures limit { IfSome (S.left source.old) (λ input. (kind : LimitKind) (number : ℕ) → result ≡ Err (Stop.Limit kind number)
         → IsLimited input limits.now.max_bytes limits.now.max_contexts limits.now.max_facts kind number) }
 {
-    let document = match read_document(alloc, source, limits) {
-        Ok(document) => document,
-        Err(ReadRefusal::Refused(refusal)) => return Err(Stop::Refused(refusal)),
-        Err(ReadRefusal::ReadFault) => return Err(Stop::ReadFault),
-        Err(ReadRefusal::Memory) => return Err(Stop::Memory),
-    };
-    match answer_to(alloc, &document, limits) {
-        Ok(text) => Ok(text),
-        Err(Halt::Limit(kind, number)) => Err(Stop::Limit(kind, number)),
-        Err(Halt::Memory) => Err(Stop::Memory),
-    }
-}
-
-/// Writes the whole text and hands it on. At most a write for each byte.
-pub(crate) fn publish<K: Sink>(out: &mut K, text: &[u8]) -> Result<(), WriteFault>
-    ensures all { OnOk result (Appends (K.written out.old) (K.written out.new) text.now) }
-    ensures finished { OnOk result (K.finished out.new ≡ true) }
-    ensures front { AppendsFront (K.written out.old) (K.written out.new) text.now }
-    ensures cause { HasCause (K.faults out.old) (K.faults out.new) result }
-    ensures unfinished { 0 < length text.now → OnErr result (K.finished out.new ≡ false) }
-{
-    write_all(out, text)?;
-    match out.finish() {
-        Ok(()) => Ok(()),
-        Err(_) => Err(WriteFault),
-    }
+    let document = read_document(alloc, source, limits)?;
+    let text = answer_to(alloc, &document, limits)?;
+    Ok(text)
 }

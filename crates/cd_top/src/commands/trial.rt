@@ -1,22 +1,23 @@
 //! The trial command: the summary of a generated document.
-ghost use Rattle.std.specs.Prelude.{◌≡◌, ◌≤◌, ◌⊎◌, true, false, ℕ, Err, IfOk};
+ghost use Rattle.std.specs.Prelude.{◌≡◌, ◌≤◌, ◌<◌, true, false, length, ℕ, Err, IfOk, IsErrOf};
 ghost use Rattle.cd_base.specs.declared.limit_kind.LimitKind.{LimitKind};
 ghost use Rattle.cd_grammar.specs.declared.refusal.Refusal.{Refusal};
 ghost use Rattle.cd_io.specs.Causes.{Rose};
 ghost use Rattle.cd_taxonomy.specs.Relation.{relation};
 ghost use Rattle.cd_taxonomy.specs.Summary.{summary_of, summary_text};
 ghost use Rattle.cd_saturation.specs.Answers.{AreAnswers};
+ghost use Rattle.cd_top.specs.Promises.{IsTriedBy};
 ghost use Rattle.cd_top.specs.Status.{line_of, IsEarly, IsNoted};
-ghost use Rattle.cd_top.specs.Trial.{IsTrialText, IsTried, IsPartlyTried, IsTrialLimited, IsTrialAnswerable};
+ghost use Rattle.cd_top.specs.Trial.{IsTrialText, IsTrialLimited};
 
-use crate::classify::publish;
-use crate::notes::note;
+use crate::conclude::conclude;
 use crate::status::Status;
+use crate::stop::Stop;
 use cd_base::{Answer, Limits, Memory};
 use cd_gen::make;
 use cd_io::Sink;
 use cd_meaning::Document;
-use cd_saturation::{Halt, answers};
+use cd_saturation::answers;
 use cd_taxonomy::{summary, summary_text, taxonomy};
 use std::alloc::Global;
 
@@ -33,79 +34,41 @@ pub(crate) fn trial_here<K: Sink, E: Sink>(
 ) -> Status
     requires least { 1 ≤ levels }
     requires most { levels ≤ 20000 }
-    // Exactly one text was written: the summary of what the generated document entails.
-    ensures done { result ≡ Status.Done → IsTried levels (K.written out.old) (K.written out.new) }
+    // What it promises.
+    ensures kept { IsTriedBy levels limits.now.max_contexts limits.now.max_facts
+        (Rose (K.faults out.old) (K.faults out.new)) (K.written out.old) (K.written out.new) result }
     ensures finished { result ≡ Status.Done → K.finished out.new ≡ true }
 
     // Each other status has its cause, or never comes.
     ensures usage { result ≡ Status.Usage → ⊥ }
-    ensures refused { (refusal : Refusal) → result ≡ Status.Refused refusal → ⊥ }
-    ensures read_fault { result ≡ Status.ReadFault → ⊥ }
     ensures write_fault { result ≡ Status.WriteFault → Rose (K.faults out.old) (K.faults out.new) }
     ensures unfinished { result ≡ Status.WriteFault → K.finished out.new ≡ false }
-    ensures limit { (kind : LimitKind) (number : ℕ) → result ≡ Status.Limit kind number
-        → IsTrialLimited levels limits.now.max_contexts limits.now.max_facts kind number }
-
-    // Where no maximum can be reached it is done, unless a fault rose or memory ran out.
-    ensures complete { IsTrialAnswerable levels limits.now.max_contexts limits.now.max_facts
-        → (Rose (K.faults out.old) (K.faults out.new) → ⊥) → (result ≡ Status.Done) ⊎ (result ≡ Status.Memory) }
 
     // What stands after it.
     ensures unwritten { IsEarly result → out.new ≡ out.old }
-    ensures partly { result ≡ Status.WriteFault → IsPartlyTried levels (K.written out.old) (K.written out.new) }
     ensures noted { IsNoted (E.written notes.old) (E.written notes.new) (E.faults notes.old) (E.faults notes.new) (line_of result) }
     ensures quiet { result ≡ Status.Done → notes.new ≡ notes.old }
 {
-    let status = trial(alloc, levels, out, limits);
-    note(notes, status);
-    status
-}
-
-/// Writes the summary of the generated document. Nothing is written before it is all there. Costs what `trial_here` does.
-fn trial<K: Sink>(alloc: Global, levels: u32, out: &mut K, limits: &Limits) -> Status
-    requires least { 1 ≤ levels }
-    requires most { levels ≤ 20000 }
-    ensures done { result ≡ Status.Done → IsTried levels (K.written out.old) (K.written out.new) }
-    ensures finished { result ≡ Status.Done → K.finished out.new ≡ true }
-    ensures usage { result ≡ Status.Usage → ⊥ }
-    ensures refused { (refusal : Refusal) → result ≡ Status.Refused refusal → ⊥ }
-    ensures read_fault { result ≡ Status.ReadFault → ⊥ }
-    ensures write_fault { result ≡ Status.WriteFault → Rose (K.faults out.old) (K.faults out.new) }
-    ensures unfinished { result ≡ Status.WriteFault → K.finished out.new ≡ false }
-    ensures limit { (kind : LimitKind) (number : ℕ) → result ≡ Status.Limit kind number
-        → IsTrialLimited levels limits.now.max_contexts limits.now.max_facts kind number }
-    ensures unwritten { IsEarly result → out.new ≡ out.old }
-    ensures partly { result ≡ Status.WriteFault → IsPartlyTried levels (K.written out.old) (K.written out.new) }
-{
-    match trial_text(alloc, levels, limits) {
-        Ok(text) => match publish(out, &text) {
-            Ok(()) => Status::Done,
-            Err(_) => Status::WriteFault,
-        },
-        Err(Halt::Limit(kind, number)) => Status::Limit(kind, number),
-        Err(Halt::Memory) => Status::Memory,
-    }
+    let found = trial_text(alloc, levels, limits);
+    conclude(out, notes, found)
 }
 
 /// The summary of what the generated document entails. Costs what `trial_here` does.
-fn trial_text(alloc: Global, levels: u32, limits: &Limits) -> Result<Vec<u8>, Halt>
+fn trial_text(alloc: Global, levels: u32, limits: &Limits) -> Result<Vec<u8>, Stop>
     requires least { 1 ≤ levels }
     requires most { levels ≤ 20000 }
     ensures text { IfOk result (λ text. IsTrialText levels text.items) }
-    ensures limit { (kind : LimitKind) (number : ℕ) → result ≡ Err (Halt.Limit kind number)
+    ensures some { IfOk result (λ text. 0 < length text.items) }
+    ensures usage { IsErrOf result Stop.Usage → ⊥ }
+    ensures unread { IsErrOf result Stop.ReadFault → ⊥ }
+    ensures refused { (refusal : Refusal) → result ≡ Err (Stop.Refused refusal) → ⊥ }
+    ensures limit { (kind : LimitKind) (number : ℕ) → result ≡ Err (Stop.Limit kind number)
         → IsTrialLimited levels limits.now.max_contexts limits.now.max_facts kind number }
 {
-    let Ok(document) = make(alloc, levels) else {
-        return Err(Halt::Memory);
-    };
-    let above = match answers(alloc, &document, limits) {
-        Ok(above) => above,
-        Err(halt) => return Err(halt),
-    };
-    match counted(alloc, &document, &above) {
-        Ok(text) => Ok(text),
-        Err(_) => Err(Halt::Memory),
-    }
+    let document = make(alloc, levels)?;
+    let above = answers(alloc, &document, limits)?;
+    let text = counted(alloc, &document, &above)?;
+    Ok(text)
 }
 
 /// The summary of the answers. What `taxonomy` takes.
