@@ -1,5 +1,5 @@
 -- The answers of closed cells are those to the document.
-use Rattle.std.proofs.Common.{◌≡◌, ℕ, zero, suc, ◌<◌, List, [], ◌∷◌, length, get_or, slice_index_or, refl, ap, subst, arith}
+use Rattle.std.proofs.Common.{◌≡◌, ℕ, zero, suc, ◌<◌, List, [], ◌∷◌, length, get_or, slice_index_or, refl, sym, ap, subst, arith}
 use Rattle.std.specs.Prelude.{Result, Ok, Err}
 use Rattle.cd_actor.specs.Cells.{At}
 use Rattle.cd_base.specs.declared.answer.Answer.{Answer}
@@ -59,10 +59,18 @@ module _ (document : Document) (n : Normal) (m : IsByMethod document n) (closure
       (λ a d lt. let la : a < length document.classes = omega (arith, each) in let r = answered a la (get_or above a d) (at_class a d la) in answer_within document n m (live_of r.state) (get_or above a d) r.is)
 
 -- what a result tells of its end
-abbrev halt_of : {X : Type 0} → Result X Halt → Halt
-halt_of (Ok x) = Memory
-halt_of (Err halt) = halt
+abbrev halt_in : {X : Type 0} → Result X Halt → Halt
+halt_in (Ok x) = Memory
+halt_in (Err halt) = halt
+
+abbrev IsLimit : Halt → Type 0
+IsLimit (Limit kind number) = Unit {0}
+IsLimit Memory = ⊥
+
+-- memory that ran out is no maximum
+pub no_limit : {X : Type 0} (halt : Halt) (kind : LimitKind) (number : ℕ) → halt ≡ Memory → ◌≡◌ {A = Result X Halt} (Err halt) (Err (Limit kind number)) → ⊥
+no_limit {X} halt kind number memory e = subst IsLimit memory (subst IsLimit (sym (ap (halt_in {X = X}) e)) tt)
 
 -- a maximum that is told was reached
 pub reached : {X : Type 0} (n : Normal) (max_contexts max_facts : ℕ) (halt : Halt) (kind : LimitKind) (number : ℕ) → HasHalted n max_contexts max_facts halt → ◌≡◌ {A = Result X Halt} (Err halt) (Err (Limit kind number)) → HasReached n max_contexts max_facts kind number
-reached {X} n mc mf halt kind number h e = subst (λ z. HasHalted n mc mf z) (ap (halt_of {X = X}) e) h
+reached {X} n mc mf halt kind number h e = subst (λ z. HasHalted n mc mf z) (ap (halt_in {X = X}) e) h

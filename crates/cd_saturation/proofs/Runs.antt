@@ -23,7 +23,7 @@ use Rattle.cd_core.specs.Ends.{IsStop}
 use Rattle.cd_core.specs.declared.stops.Stop.{Stop}
 use Rattle.cd_core.specs.declared.stops.Stop.TheVariants.{Limit, Memory}
 use Rattle.cd_base.specs.declared.limit_kind.LimitKind.TheVariants.{Contexts, Facts}
-use Rattle.cd_saturation.specs.Limit.{HasReached}
+use Rattle.cd_saturation.specs.Limit.{HasHalted, halt_of}
 use Rattle.cd_saturation.specs.Saturation.{AreNew, AreStarts, IsBegun, IsCoreBegun, IsAnswerIn, new_cell, place_for, start_of}
 
 -- an element of a list with one more
@@ -93,13 +93,9 @@ module _ (n : Normal) (count : ℕ) (cells : List CellState) (are : AreNew n cou
   facts_after after number k keeps e = subst (λ z. HasFacts n z) (sym e) (cell_counts n after k (normal_after after keeps)).1
 
   -- what a run that has stopped tells is so
-  abbrev pub HasStopped : ℕ → ℕ → Stop CellState → Type 0
-  HasStopped mc mf (Limit kind number after) = HasReached n mc mf kind number
-  HasStopped mc mf Memory = Unit {0}
-
-  pub stopped : (mc mf : ℕ) (stop : Stop CellState) → IsStop meaning cells mc mf stop → HasStopped mc mf stop
-  stopped mc mf (Limit Contexts number after) h = (contexts_after after.items number h.0 h.2 h.3, h.4)
-  stopped mc mf (Limit Facts number after) h = (facts_after after.items number h.0 h.2 h.3, h.4)
+  pub stopped : (mc mf : ℕ) (stop : Stop CellState) → IsStop meaning cells mc mf stop → HasHalted n mc mf (halt_of stop)
+  stopped mc mf (Limit Contexts number after) h = (contexts_after after.items number h.0 h.2 h.3.0, h.3.1)
+  stopped mc mf (Limit Facts number after) h = (facts_after after.items number h.0 h.2 h.3.0, h.3.1)
   stopped mc mf Memory h = tt
 
 -- where the start messages are had, the contexts of the classes have begun

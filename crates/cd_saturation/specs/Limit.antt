@@ -6,6 +6,7 @@ use Rattle.cd_base.specs.declared.normal.Normal.{Normal}
 use Rattle.cd_meaning.specs.declared.document.Document.{Document}
 use Rattle.cd_normal.specs.Method.{IsByMethod}
 use Rattle.cd_cell.specs.Counts.{HasContexts, HasFacts}
+use Rattle.cd_core.specs.declared.stops.Stop.{Stop}
 use Rattle.cd_saturation.specs.declared.halt.Halt.{Halt}
 use Rattle.cd_saturation.specs.declared.halt.Halt.TheVariants.{Limit, Memory}
 
@@ -17,6 +18,11 @@ HasReached n max_contexts max_facts Facts number = HasFacts n number × (max_fac
 -- so it is with normal axioms that are the document's by the method
 abbrev pub IsReached : Document → ℕ → ℕ → LimitKind → ℕ → Type 0
 IsReached document max_contexts max_facts kind number = (n : Normal) × IsByMethod document n × HasReached n max_contexts max_facts kind number
+
+-- why there are no answers where a core has stopped
+abbrev pub halt_of : {A : Type 0} → Stop A → Halt
+halt_of (Stop.Limit kind number cells) = Limit kind number
+halt_of Stop.Memory = Memory
 
 -- a run that ends so has reached a maximum, or has run out of memory
 abbrev pub HasHalted : Normal → ℕ → ℕ → Halt → Type 0

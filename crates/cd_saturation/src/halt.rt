@@ -1,5 +1,6 @@
 //! Why a run has no answers.
-use cd_base::LimitKind;
+use cd_base::{LimitKind, Memory};
+use cd_core::Stop;
 use thiserror::Error;
 
 /// Why a run has no answers.
@@ -11,4 +12,30 @@ pub enum Halt {
     /// Memory ran out.
     #[error("out of memory")]
     Memory,
+}
+
+impl From<Memory> for Halt {
+    ghost use Rattle.std.specs.Prelude.{◌≡◌};
+    ghost use Rattle.cd_saturation.specs.declared.halt.Halt.{Halt};
+
+    ghost from_gives = { λ _ halt. halt ≡ Halt.Memory };
+
+    fn from(_: Memory) -> Halt {
+        Halt::Memory
+    }
+}
+
+/// The cells of the run are let go of.
+impl<A: Drop> From<Stop<A>> for Halt {
+    ghost use Rattle.std.specs.Prelude.{◌≡◌};
+    ghost use Rattle.cd_saturation.specs.Limit.{halt_of};
+
+    ghost from_gives = { λ stop halt. halt ≡ halt_of stop };
+
+    fn from(stop: Stop<A>) -> Halt {
+        match stop {
+            Stop::Limit(kind, number, _) => Halt::Limit(kind, number),
+            Stop::Memory => Halt::Memory,
+        }
+    }
 }

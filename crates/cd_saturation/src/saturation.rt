@@ -9,7 +9,7 @@ use crate::halt::Halt;
 use cd_base::{Atom, Key, Limits, Memory};
 use cd_cell::Cell;
 use cd_context::{Fact, Note};
-use cd_core::{Core, Stop};
+use cd_core::Core;
 use cd_index::Index;
 use std::alloc::Global;
 
@@ -27,14 +27,9 @@ pub fn saturate<'a>(
     ensures begun { IfOk result (λ cells. (a : ℕ) → a < classes → IsBegun limits.now.cells cells.items a) }
     ensures halted { IfErr result (HasHalted index.now.normal limits.now.max_contexts limits.now.max_facts) }
 {
-    let Ok(core) = begun_core(alloc, index, classes, limits.cells) else {
-        return Err(Halt::Memory);
-    };
-    match core.finish(alloc, limits) {
-        Ok(cells) => Ok(cells),
-        Err(Stop::Limit(kind, number, _)) => Err(Halt::Limit(kind, number)),
-        Err(Stop::Memory) => Err(Halt::Memory),
-    }
+    let core = begun_core(alloc, index, classes, limits.cells)?;
+    let cells = core.finish(alloc, limits)?;
+    Ok(cells)
 }
 
 /// So many cells without contexts, where the messages pend that begin the contexts of the first classes. Linear in both numbers.

@@ -22,28 +22,17 @@ use std::alloc::Global;
 ///
 /// Linear in the nodes of the document for its normal form and index; then the cost of the contexts until each conclusion is redundant,
 /// and for each class that of `Cell::subsumers`. `Limit` where a maximum was reached before.
-pub fn answers(
-    alloc: Global,
-    document: &Document,
-    limits: &Limits,
-) -> Result<Vec<Answer>, Halt>
+pub fn answers(alloc: Global, document: &Document, limits: &Limits) -> Result<Vec<Answer>, Halt>
     requires few { length document.now.classes + 6 * nodes document.now.axioms < 2 ^ 32 - 1 }
     ensures ok { IfOk result (λ above. AreAnswers document.now above.items) }
     ensures limit { (kind : LimitKind) (number : ℕ) → result ≡ Err (Halt.Limit kind number)
         → IsReached document.now limits.now.max_contexts limits.now.max_facts kind number }
 {
-    let Ok(index) = index_of(alloc, document) else {
-        return Err(Halt::Memory);
-    };
+    let index = index_of(alloc, document)?;
     let classes = document.classes.items().len() as u32;
-    let cells = match saturate(alloc, &index, classes, limits) {
-        Ok(cells) => cells,
-        Err(halt) => return Err(halt),
-    };
-    match all_answers(alloc, &cells, limits.cells, classes) {
-        Ok(above) => Ok(above),
-        Err(_) => Err(Halt::Memory),
-    }
+    let cells = saturate(alloc, &index, classes, limits)?;
+    let above = all_answers(alloc, &cells, limits.cells, classes)?;
+    Ok(above)
 }
 
 /// The answers of the cells for the first classes, in turn.

@@ -1,14 +1,13 @@
 -- What the words ask is one command, under limits of the same numbers.
 use Rattle.std.proofs.Common.{◌≡◌, ℕ, suc, List, subst, ap, sym, refl, ◌∙◌, arith}
 use Rattle.std.specs.Prelude.{Option, Some, None, IfSome}
-use Rattle.cd_base.specs.declared.limit_kind.LimitKind.{LimitKind}
 use Rattle.cd_base.specs.declared.limits.Limits.{Limits}
 use Rattle.cd_words.specs.declared.request.AskFault.{AskFault}
 use Rattle.cd_words.specs.declared.request.Command.{Command}
 use Rattle.cd_words.specs.declared.request.Command.TheVariants.{Classify, Trial}
 use Rattle.cd_words.specs.Form.{Bytes, Asks, AsksOnly, HaveSameNumbers}
-use Rattle.cd_top.specs.declared.status.Status.TheVariants.{Limit, Memory}
-use Rattle.cd_top.specs.Status.{code_of, status_of}
+use Rattle.cd_top.specs.declared.status.Status.TheVariants.{Memory}
+use Rattle.cd_top.specs.Stops.{status_of, stop_of_words}
 
 -- a number for each command
 abbrev code : Command → ℕ
@@ -44,14 +43,9 @@ module _ (words : List Bytes) (command : Command) (limits : Limits) (only : Asks
       same_numbers (λ bytes contexts facts. P n contexts facts) others limits same.1 (subst (λ z. P z limits.max_contexts limits.max_facts) levels p)
 
 -- a fault that is not that of words outside the form is want of memory
-pub memory_ends : (fault : AskFault) (Formed : Type 0) → (fault ≡ AskFault.Usage → Formed → ⊥) → Formed → status_of fault ≡ Memory
+pub memory_ends : (fault : AskFault) (Formed : Type 0) → (fault ≡ AskFault.Usage → Formed → ⊥) → Formed → status_of (stop_of_words fault) ≡ Memory
 memory_ends AskFault.Usage Formed outside formed = absurd (outside refl formed)
 memory_ends AskFault.Memory Formed outside formed = refl
-
--- no fault of the words is a maximum that was reached
-pub no_limit : (fault : AskFault) (kind : LimitKind) (number : ℕ) → status_of fault ≡ Limit kind number → ⊥
-no_limit AskFault.Usage kind number e = let n : 2 ≡ 3 = ap code_of e in absurd (omega (arith, n))
-no_limit AskFault.Memory kind number e = let n : 6 ≡ 3 = ap code_of e in absurd (omega (arith, n))
 
 -- what holds of every value holds of the one that may be there
 pub if_some : {X : Type 0} (o : Option X) (P : X → Type 0) → ((x : X) → P x) → IfSome o P

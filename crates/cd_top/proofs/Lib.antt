@@ -3,6 +3,7 @@ pub mod Asked
 pub mod Complete
 pub mod Fronts
 pub mod LeastTrial
+pub mod Promised
 pub mod Renumbering
 pub mod Restated
 pub mod RestatedAxioms
@@ -11,5 +12,4 @@ pub mod RestatedNames
 pub mod RestatedTokens
 pub mod SameAnswer
 pub mod SomeText
-pub mod Told
-pub mod Trials
+pub mod Stopped

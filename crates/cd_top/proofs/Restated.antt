@@ -30,7 +30,8 @@ use Rattle.cd_syntax.specs.declared.known.Known.{Known}
 use Rattle.cd_syntax.specs.Grammar.{begun, Text, Leads, nesting, IsDocument}
 use Rattle.cd_top.specs.Restated.{EntailsNamed, SaysTheSame, AnswerIsRestated}
 use Rattle.cd_grammar.proofs.Finishing.{known_is_sound}
-use Rattle.cd_top.proofs.SameAnswer.{subsumption, also_answer}
+use Rattle.cd_taxonomy.proofs.Decided.{subsumption}
+use Rattle.cd_top.proofs.SameAnswer.{also_answer}
 use Rattle.cd_top.proofs.RestatedLines.{Statement, statements, text_pieces, cut_text, kinds_of_pieces}
 use Rattle.cd_top.proofs.RestatedNames.{any_there, there_from_any, none_alike, number_is}
 use Rattle.cd_top.proofs.RestatedTokens.{said_by, leads_text, axioms_are}

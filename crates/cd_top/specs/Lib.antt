@@ -1,4 +1,6 @@
 pub mod Headline
+pub mod Promises
 pub mod Restated
 pub mod Status
+pub mod Stops
 pub mod Trial

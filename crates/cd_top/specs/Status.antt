@@ -6,7 +6,6 @@ use Rattle.cd_io.specs.Streams.{AppendsFront}
 use Rattle.cd_syntax.specs.declared.refusal.Refusal.{Refusal}
 use Rattle.cd_syntax.specs.declared.refusal.Refusal.TheVariants.{Syntax, Construct, Prefix, Depth, TooLong}
 use Rattle.cd_syntax.specs.Constructs.{word_of}
-use Rattle.cd_words.specs.declared.request.AskFault.{AskFault}
 use Rattle.cd_top.specs.declared.status.Status.{Status}
 use Rattle.cd_top.specs.declared.status.Status.TheVariants.{Done, Refused, Usage, Limit, ReadFault, WriteFault, Memory}
 use Rattle.cd_base.specs.declared.limit_kind.LimitKind.{LimitKind}
@@ -55,11 +54,6 @@ line_of (Limit kind number) = limit_line kind number
 line_of ReadFault = codes "condor: reading failed" ++ 10 ∷ []
 line_of WriteFault = codes "condor: writing failed" ++ 10 ∷ []
 line_of Memory = codes "condor: out of memory" ++ 10 ∷ []
-
--- the status where the words ask for nothing
-abbrev pub status_of : AskFault → Status
-status_of AskFault.Usage = Usage
-status_of AskFault.Memory = Memory
 
 -- the status comes before anything is written
 abbrev pub IsEarly : Status → Type 0

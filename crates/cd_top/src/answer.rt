@@ -25,14 +25,9 @@ pub(crate) fn answer_to(
     ensures limit { (kind : LimitKind) (number : ℕ) → result ≡ Err (Halt.Limit kind number)
         → IsReached document.now limits.now.max_contexts limits.now.max_facts kind number }
 {
-    let above = match answers(alloc, document, limits) {
-        Ok(above) => above,
-        Err(halt) => return Err(halt),
-    };
-    match text_of(alloc, document, &above) {
-        Ok(bytes) => Ok(bytes),
-        Err(_) => Err(Halt::Memory),
-    }
+    let above = answers(alloc, document, limits)?;
+    let bytes = text_of(alloc, document, &above)?;
+    Ok(bytes)
 }
 
 /// The text of the answers. What `taxonomy` and `text` take.

@@ -4,10 +4,11 @@
 //! `run` is all that a program has to call. A caller that has limits of its own calls `classify_here`.
 //!
 //! The road of a document, by modules: `cd_grammar` reads it, `cd_saturation` has the superclasses of each class, and `answer` has
-//! `cd_taxonomy` write the text. `classify` reads, answers and writes. `trial` takes the same road with the document that `cd_gen` makes,
-//! up to the taxonomy, and writes its summary. `command` has `cd_words` look at the words before it, and `notes` puts a line on the notes
-//! after it. `status` has the ways in which a run ends. `laws` says of the definitions that an answer is a document that says the same as
-//! the input.
+//! `cd_taxonomy` write the text. `commands` has a file a command, each a function to the bytes that are to be written: `classify` reads and
+//! answers, and `trial` takes the same road with the document that `cd_gen` makes, up to the taxonomy, to its summary. `conclude` is the
+//! one place that writes them, and `notes` puts a line on the notes. `stop` has why there may be none, and `status` the ways in which a
+//! run ends. `command` has `cd_words` look at the words before all this. `laws` says of the definitions that an answer is a document that
+//! says the same as the input.
 //!
 //! Nothing is written before the whole answer is there. So the output is as it was where the input is refused, a read fails or
 //! memory runs out, and after a write that failed it has a front of the one right text, never a part of another.
@@ -20,14 +21,16 @@
 #![tactic(auto)]
 
 mod answer;
-mod classify;
 mod command;
+mod commands;
+mod conclude;
 mod laws;
 mod notes;
 mod status;
-mod trial;
+mod stop;
 
-pub use command::{classify_here, run};
+pub use command::run;
+pub use commands::classify::classify_here;
 pub use laws::{
     answer_is_restated, has_one_text, is_below_in_every_structure, same_have_same_answer,
 };

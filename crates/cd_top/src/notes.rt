@@ -12,13 +12,16 @@ use cd_io::{Sink, WriteFault, write_all};
 use cd_syntax::{Refusal, word_text};
 use itoa::Buffer;
 
-/// Puts the status's line on the notes, as far as they take it. Takes no memory. At most a write for each byte of the line.
-pub(crate) fn note<E: Sink>(notes: &mut E, status: Status)
+/// Puts the status's line on the notes, as far as they take it, and gives the status back. Takes no memory. At most a write for each byte
+/// of the line.
+pub(crate) fn note<E: Sink>(notes: &mut E, status: Status) -> Status
+    ensures same { result ≡ status }
     ensures noted { IsNoted (E.written notes.old) (E.written notes.new) (E.faults notes.old) (E.faults notes.new) (line_of status) }
     ensures quiet { status ≡ Status.Done → notes.new ≡ notes.old }
 {
     // A fault on the notes leaves the status as it is.
     let _ = put_line(notes, status);
+    status
 }
 
 /// Writes the status's line.
