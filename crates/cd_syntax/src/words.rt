@@ -71,7 +71,7 @@ pub enum Key {
 }
 
 /// What the word is to the grammar. Constant time.
-pub fn key_of(word: &[u8]) -> Key
+pub(crate) fn key_of(word: &[u8]) -> Key
     ensures { result ≡ key_of word.now }
 {
     if let Some(form) = axiom_form(word) {
