@@ -1,8 +1,7 @@
 -- Closed cells are closed contexts, each found by its key.
-use Rattle.std.proofs.Common.{◌≡◌, ℕ, suc, ◌<◌, ◌⊎◌, inl, inr, Bool, true, false, List, [], ◌∷◌, length, map, get_or, Option, Some, None, refl, sym, ap, subst, ◌∙◌, true≢false, cond}
-use Rattle.std.specs.Option.{option_map_or}
+use Rattle.std.proofs.Common.{◌≡◌, ℕ, suc, inl, inr, Bool, true, List, [], ◌∷◌, length, map, get_or, Option, Some, None, refl, sym, ap, subst, ◌∙◌}
 use Rattle.cd_base.specs.Keys.{plain}
-use Rattle.cd_base.specs.Lists.{Member, IsApart, collect}
+use Rattle.cd_base.specs.Lists.{Member, collect}
 use Rattle.cd_base.specs.declared.normal.Normal.{Normal}
 use Rattle.cd_base.proofs.Members.{member_map, map_member, member_collect, collect_member}
 use Rattle.cd_clause.specs.declared.elem.Elem.{Elem}
@@ -18,7 +17,7 @@ use Rattle.cd_context.specs.declared.facts.Note.{Note}
 use Rattle.cd_context.proofs.Justify.{live_derived}
 use Rattle.cd_actor.specs.Cells.{At, Had}
 use Rattle.cd_actor.proofs.At.{at_get, at_member}
-use Rattle.cd_cell.specs.Cells.{CellState, IsCell, IsWhole, OwesFrom, place_of, state_at, has_note, meaning}
+use Rattle.cd_cell.specs.Cells.{CellState, IsWhole, place_of, state_at, meaning}
 use Rattle.cd_cell.specs.Closed.{Closed}
 use Rattle.cd_cell.specs.ClosedCells.{AreClosed, CellExactness}
 use Rattle.cd_cell.proofs.Lookups.{state_of_member, member_of_state, has_from}

@@ -1,17 +1,16 @@
 -- The contexts of all cells, and how many they are.
-use Rattle.std.proofs.Common.{◌≡◌, ℕ, zero, suc, ◌+◌, ◌<◌, ◌≤◌, inl, inr, min, List, [], ◌∷◌, ◌++◌, length, map, refl, sym, ap, subst, ◌∙◌, arith}
+use Rattle.std.proofs.Common.{◌≡◌, ℕ, suc, ◌+◌, ◌≤◌, inl, inr, List, [], ◌∷◌, ◌++◌, length, map, refl, sym, ap, subst, ◌∙◌, arith}
 use Rattle.std.specs.List.{sum_by}
 use Rattle.std.proofs.lemmas.List.{length-append, length-map, map-append}
 use Rattle.std.proofs.lemmas.List.Sums.{sum_by-append, sum_by-cons}
 use Rattle.cd_base.specs.Lists.{Member, IsApart, collect}
 use Rattle.cd_base.specs.declared.normal.Normal.{Normal}
-use Rattle.cd_base.proofs.Members.{member_cases, map_member, member_map, collect_member}
-use Rattle.cd_actor.specs.Cells.{At, AreCells, total}
-use Rattle.cd_base.specs.Counts.{last}
+use Rattle.cd_base.proofs.Members.{member_cases, map_member, collect_member}
+use Rattle.cd_actor.specs.Cells.{At}
 use Rattle.cd_context.specs.Facts.{count}
 use Rattle.cd_context.specs.Justified.{IsContext}
 use Rattle.cd_context.specs.State.{State}
-use Rattle.cd_cell.specs.Cells.{CellState, IsCell, place_of, contexts_of, facts_of, meaning}
+use Rattle.cd_cell.specs.Cells.{CellState, IsCell, place_of, contexts_of, facts_of}
 use Rattle.cd_cell.specs.Counts.{AreContexts, CellCounts}
 
 abbrev states_in : CellState → List State

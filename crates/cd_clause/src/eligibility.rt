@@ -1,5 +1,5 @@
 //! Which elements of a clause the rules work on.
-ghost use Rattle.std.specs.Prelude.{◌≡◌, ◌<◌, ◌↔◌, map, length, slice_index_or, true};
+ghost use Rattle.std.specs.Prelude.{◌≡◌, ◌<◌, ◌↔◌, length, slice_index_or, true};
 ghost use Rattle.cd_base.specs.Keys.{is_named};
 ghost use Rattle.cd_clause.specs.Dictionary.{is_at_most};
 ghost use Rattle.cd_clause.specs.Elements.{rank, Eligible};
@@ -7,7 +7,7 @@ ghost use Rattle.cd_clause.specs.declared.elem.Elem.TheVariants.{Plain};
 
 use crate::clause::Clause;
 use crate::elem::{Elem, are_at_most};
-use cd_base::{Atom, Normal};
+use cd_base::Normal;
 
 /// Whether the element at place `i` is eligible: no element of the clause is strictly greater in the order of the calculus, in which
 /// named atoms are lowest and not ordered among themselves, other atoms are above them by number, and existentials are above

@@ -13,7 +13,7 @@ ghost use Rattle.cd_syntax.specs.declared.words.Key.{Key};
 use crate::symbol::{Frame, Stack, Symbol};
 use cd_base::{Memory, Seq};
 use cd_meaning::Expr;
-use cd_names::{DeclareFault, ExpandFault};
+use cd_names::DeclareFault;
 use cd_syntax::{
     ExprForm, Form, Item, Key, Known, Made, class_of, has_class_head, is_iri, is_subject, make,
     role_of, wants_head, wants_part,

@@ -1,7 +1,5 @@
 //! What an item stands for.
 ghost use Rattle.std.specs.Prelude.{◌≡◌, ◌<◌, ◌-◌, ◌^◌, length, is_some, Some, IfOk};
-ghost use Rattle.std.specs.Str.{bytes_eq};
-ghost use Rattle.cd_syntax.specs.Grammar.{top_role, bottom_role};
 ghost use Rattle.cd_syntax.specs.Named.{IsClassNamed, IsRoleNamed, iri_of, is_subject, is_role};
 
 use crate::item::Item;

@@ -1,10 +1,9 @@
 -- The text of what a document entails is the answer to its input, the only one, and says what holds over every domain.
-use Rattle.std.proofs.Common.{◌≡◌, ◌≢◌, ◌<◌, ◌↔◌, ℕ, Bool, List, length, sym, subst, ◌∙◌, slice_get}
-use Rattle.std.specs.Prelude.{AllPairs, IsTrue, Some}
+use Rattle.std.proofs.Common.{◌≡◌, ◌<◌, ◌↔◌, ℕ, Bool, List, length, sym, subst, ◌∙◌, slice_get}
+use Rattle.std.specs.Prelude.{IsTrue, Some}
 use Rattle.std.proofs.lemmas.Option.{slice_get_within, get_or_from_slice_get}
 use Rattle.cd_meaning.specs.declared.document.Document.{Document}
 use Rattle.cd_meaning.specs.declared.expression.Axiom.{Axiom}
-use Rattle.cd_meaning.specs.AnyDomain.{Elements, EntailsOver}
 use Rattle.cd_meaning.specs.Answer.{IsAnswer}
 use Rattle.cd_meaning.specs.Entailment.{Entails}
 use Rattle.cd_meaning.specs.Text.{text}

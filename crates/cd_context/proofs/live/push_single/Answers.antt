@@ -1,4 +1,4 @@
-use Rattle.std.proofs.Common.{ℕ, ◌∷◌, ◌++◌, [], inl, inr, sym, ◌∙◌, ap, subst}
+use Rattle.std.proofs.Common.{ℕ, ◌∷◌, [], inl, inr, sym, subst}
 use Rattle.cd_base.specs.Lists.{Member}
 use Rattle.cd_base.proofs.Members.{member_cases, member_left, member_right}
 use Rattle.cd_context.proofs.Singles.{alone_if_only, one_if_only}

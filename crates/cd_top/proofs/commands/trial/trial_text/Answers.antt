@@ -1,8 +1,7 @@
-use Rattle.std.proofs.Common.{◌≡◌, ap, sym, ◌∙◌, refl, arith}
+use Rattle.std.proofs.Common.{ap, sym, ◌∙◌, refl, arith}
 use Rattle.std.proofs.lemmas.Result.{err_from_is_err_and}
 use Rattle.cd_taxonomy.specs.Relation.{relation}
 use Rattle.cd_taxonomy.specs.Summary.{summary_of, summary_text}
-use Rattle.cd_top.specs.Trial.{IsTrialText}
 use Rattle.cd_top.specs.declared.stop.Stop.{Stop}
 use Rattle.cd_top.proofs.SomeText.{some_trial}
 use Rattle.cd_top.proofs.Stopped.{from_halt, not_halt, not_memory}
