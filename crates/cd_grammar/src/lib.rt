@@ -23,8 +23,3 @@ mod symbol;
 
 pub use input::{ReadRefusal, read_document};
 pub use laws::{has_one_fault, has_one_reading, is_read_or_faulty, known_is_sound, worked_texts};
-
-#[cfg(test)]
-mod limits_tests;
-#[cfg(test)]
-mod tests;

@@ -1,7 +1,7 @@
 //! Worked documents and refusals, over sources in memory. What is expected was written by hand.
 //! What has many parts is let go of by `drop`, which the prover takes as one step.
-use crate::{ReadRefusal, read_document};
 use cd_base::Limits;
+use cd_grammar::{ReadRefusal, read_document};
 use cd_io::MemSource;
 use cd_meaning::Document;
 use cd_syntax::{Refusal, word_text};

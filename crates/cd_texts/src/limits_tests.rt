@@ -6,8 +6,8 @@ ghost use Rattle.std.specs.Io.KnownBytes.{ReadConsumes};
 ghost use Rattle.cd_io.specs.Causes.{HasCause};
 ghost use Rattle.cd_io.specs.Streams.{TellsEnd, KeepsEnd, KeepsAtOk};
 
-use crate::{ReadRefusal, read_document};
 use cd_base::Limits;
+use cd_grammar::{ReadRefusal, read_document};
 use cd_io::{Failed, MemSource, Source};
 use cd_syntax::Refusal;
 use std::alloc::Global;
