@@ -98,8 +98,8 @@ module _ (n : Normal) (count : ℕ) (cells : List CellState) (are : AreNew n cou
   HasStopped mc mf Memory = Unit {0}
 
   pub stopped : (mc mf : ℕ) (stop : Stop CellState) → IsStop meaning cells mc mf stop → HasStopped mc mf stop
-  stopped mc mf (Limit Contexts number after) h = (contexts_after after.items number h.0 h.2 h.3, h.4)
-  stopped mc mf (Limit Facts number after) h = (facts_after after.items number h.0 h.2 h.3, h.4)
+  stopped mc mf (Limit Contexts number after) h = (contexts_after after.items number h.0 h.2 h.3.0, h.3.1)
+  stopped mc mf (Limit Facts number after) h = (facts_after after.items number h.0 h.2 h.3.0, h.3.1)
   stopped mc mf Memory h = tt
 
 -- where the start messages are had, the contexts of the classes have begun

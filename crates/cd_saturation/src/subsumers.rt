@@ -22,11 +22,7 @@ use std::alloc::Global;
 ///
 /// Linear in the nodes of the document for its normal form and index; then the cost of the contexts until each conclusion is redundant,
 /// and for each class that of `Cell::subsumers`. `Limit` where a maximum was reached before.
-pub fn answers(
-    alloc: Global,
-    document: &Document,
-    limits: &Limits,
-) -> Result<Vec<Answer>, Halt>
+pub fn answers(alloc: Global, document: &Document, limits: &Limits) -> Result<Vec<Answer>, Halt>
     requires few { length document.now.classes + 6 * nodes document.now.axioms < 2 ^ 32 - 1 }
     ensures ok { IfOk result (λ above. AreAnswers document.now above.items) }
     ensures limit { (kind : LimitKind) (number : ℕ) → result ≡ Err (Halt.Limit kind number)
