@@ -13,8 +13,6 @@ mod answers;
 mod cell;
 mod contexts;
 mod sending;
-#[cfg(test)]
-mod tests;
 
 ghost use Rattle.cd_cell.specs.Canonical.{Completeness};
 ghost use Rattle.cd_cell.specs.Closed.{Saturation};
