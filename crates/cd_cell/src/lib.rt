@@ -14,8 +14,6 @@ mod cell;
 mod contexts;
 mod laws;
 mod sending;
-#[cfg(test)]
-mod tests;
 
 pub use cell::Cell;
 pub use laws::{cells_are_exact, closed_is_saturated, counts_are_had, same_answers};

@@ -17,4 +17,3 @@ pub mod TakeUps
 pub mod Ties
 pub mod ToldMore
 pub mod Waits
-pub mod WorkedDerivations

@@ -9,8 +9,6 @@
 
 ghost use Rattle.cd_context.specs.Justified.{StoredDerived, OwedJustified};
 
-#[cfg(test)]
-mod absorb_tests;
 mod beside;
 mod closing;
 mod context;
@@ -22,8 +20,6 @@ mod live;
 mod notes;
 mod owing;
 mod sending;
-#[cfg(test)]
-mod tests;
 mod waiting;
 
 pub use context::Context;

@@ -18,8 +18,6 @@ mod init;
 pub mod look_ups;
 mod neg;
 mod premise;
-#[cfg(test)]
-mod tests;
 
 pub use back::on_back;
 pub use dead::on_dead;

@@ -1,4 +1,3 @@
 pub mod Answers
-pub mod CoreRuns
 pub mod Limit
 pub mod Saturation

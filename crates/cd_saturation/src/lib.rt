@@ -16,8 +16,6 @@ mod halt;
 mod indexing;
 mod saturation;
 mod subsumers;
-#[cfg(test)]
-mod tests;
 
 pub use halt::Halt;
 pub use indexing::index_of;

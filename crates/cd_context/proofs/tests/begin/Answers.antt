@@ -1,5 +1,0 @@
-use Rattle.cd_clause.specs.Derivations.{from_named}
-use Rattle.cd_context.proofs.tests.begin.Goals as goal
-
-pub begin-requires : goal.begin-requires
-begin-requires g c = from_named c.args.class c.requires c.single.ensures

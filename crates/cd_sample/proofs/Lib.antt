@@ -1,0 +1,2 @@
+pub mod CoreRuns
+pub mod WorkedDerivations

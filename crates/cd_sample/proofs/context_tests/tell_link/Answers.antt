@@ -1,0 +1,8 @@
+use Rattle.std.proofs.Common.{refl}
+use Rattle.cd_clause.specs.Derivations.{from_named}
+use Rattle.cd_sample.proofs.WorkedDerivations.{link_justified}
+use Rattle.cd_sample.proofs.context_tests.tell_link.Goals as goal
+
+pub absorb-requires-clause-justified : goal.absorb-requires-clause-justified
+absorb-requires-clause-justified g c =
+    link_justified c.args.index.now.normal c.requires.edge c.args.context.now.key c.two.result c.requires.key c.two.ensures (from_named 2 c.requires.two c.two.ensures)

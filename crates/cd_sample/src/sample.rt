@@ -1,0 +1,148 @@
+//! The hand-made normal axioms and their indexes.
+ghost use Rattle.std.specs.Prelude.{◌≡◌, ◌∷◌, [], true, IsTrue};
+ghost use Rattle.std.specs.List.{list_all};
+ghost use Rattle.cd_base.specs.Keys.{is_named};
+ghost use Rattle.cd_base.specs.Lists.{Member};
+ghost use Rattle.cd_base.specs.Normal.{has_atoms_below};
+
+use cd_base::{Atom, Conj, Normal, Role, Seq, Triple};
+use cd_index::{Closure, Index};
+use std::alloc::Global;
+use std::process::Abort;
+
+/// The triple of these two atoms and the role 0.
+pub fn triple(atom: u32, other: u32) -> Triple
+    ensures atom { result.atom ≡ atom }
+    ensures role { result.role ≡ 0 }
+    ensures other { result.other ≡ other }
+{
+    Triple {
+        atom: Atom(atom),
+        role: Role(0),
+        other: Atom(other),
+    }
+}
+
+fn no_atoms(alloc: Global) -> Seq<Atom>
+    ensures { result ≡ [] }
+{
+    Seq::of(Vec::new(alloc))
+}
+
+fn one_atom(rt: &impl Abort, alloc: Global, atom: u32) -> Seq<Atom>
+    ensures { result ≡ atom ∷ [] }
+{
+    Seq::of(vec![in alloc; Atom(atom)].expect(rt, "memory"))
+}
+
+/// `-> 0`, `1 ->` and `2 -> 3`.
+fn three_axioms(rt: &impl Abort, alloc: Global) -> Seq<Conj>
+    ensures { IsTrue (list_all (has_atoms_below 6) result) }
+{
+    let always = Conj {
+        left: no_atoms(alloc),
+        right: one_atom(rt, alloc, 0),
+    };
+    let never = Conj {
+        left: one_atom(rt, alloc, 1),
+        right: no_atoms(alloc),
+    };
+    let below = Conj {
+        left: one_atom(rt, alloc, 2),
+        right: one_atom(rt, alloc, 3),
+    };
+    Seq::of(vec![in alloc; always, never, below].expect(rt, "memory"))
+}
+
+/// Six classes, one role, three axioms of atoms, an edge from each 2 to a 4, and whoever has an edge to a 4 is a 5.
+fn six_atoms(rt: &impl Abort, alloc: Global) -> Normal
+    ensures atoms { result.atoms ≡ 6 }
+    ensures roles { result.roles ≡ 1 }
+    ensures chains { result.n5 ≡ [] }
+    ensures two { is_named result 2 ≡ true }
+    ensures four { is_named result 4 ≡ true }
+    ensures edge { Member (record { atom = 2; role = 0; other = 4 }) result.n2 }
+    ensures back { Member (record { atom = 4; role = 0; other = 5 }) result.n3 }
+{
+    let n1 = three_axioms(rt, alloc);
+    let named = vec![in alloc; true, true, true, true, true, true].expect(rt, "memory");
+    let n2 = vec![in alloc; triple(2, 4)].expect(rt, "memory");
+    let n3 = vec![in alloc; triple(4, 5)].expect(rt, "memory");
+    Normal {
+        atoms: 6,
+        named: Seq::of(named),
+        roles: 1,
+        n1,
+        n2: Seq::of(n2),
+        n3: Seq::of(n3),
+        n4: Seq::of(Vec::new(alloc)),
+        n5: Seq::of(Vec::new(alloc)),
+    }
+}
+
+/// The index of `six_atoms`.
+pub fn hand_made(rt: &impl Abort, alloc: Global) -> Index
+    ensures atoms { result.normal.atoms ≡ 6 }
+    ensures roles { result.normal.roles ≡ 1 }
+    ensures two { is_named result.normal 2 ≡ true }
+    ensures four { is_named result.normal 4 ≡ true }
+    ensures edge { Member (record { atom = 2; role = 0; other = 4 }) result.normal.n2 }
+    ensures back { Member (record { atom = 4; role = 0; other = 5 }) result.normal.n3 }
+{
+    let normal = six_atoms(rt, alloc);
+    let closure = Closure::of(alloc, normal.roles, normal.n5.items()).expect(rt, "memory");
+    Index::of(alloc, normal, closure).expect(rt, "memory")
+}
+
+fn two_atoms(rt: &impl Abort, alloc: Global) -> Seq<Atom>
+    ensures { result ≡ 0 ∷ 2 ∷ [] }
+{
+    Seq::of(vec![in alloc; Atom(0), Atom(2)].expect(rt, "memory"))
+}
+
+/// `-> 0` and `0 2 -> 3`.
+fn two_axioms(rt: &impl Abort, alloc: Global) -> Seq<Conj>
+    ensures { IsTrue (list_all (has_atoms_below 6) result) }
+{
+    let always = Conj {
+        left: no_atoms(alloc),
+        right: one_atom(rt, alloc, 0),
+    };
+    let both = Conj {
+        left: two_atoms(rt, alloc),
+        right: one_atom(rt, alloc, 3),
+    };
+    Seq::of(vec![in alloc; always, both].expect(rt, "memory"))
+}
+
+/// Six classes, one role, these axioms, an edge from each 2 to a 4, and every edge from a 3 goes to a 5.
+fn with_a_universal(rt: &impl Abort, alloc: Global) -> Normal
+    ensures atoms { result.atoms ≡ 6 }
+    ensures roles { result.roles ≡ 1 }
+    ensures chains { result.n5 ≡ [] }
+    ensures named { is_named result 2 ≡ true }
+{
+    let n1 = two_axioms(rt, alloc);
+    let named = vec![in alloc; true, true, true, true, true, true].expect(rt, "memory");
+    let n2 = vec![in alloc; triple(2, 4)].expect(rt, "memory");
+    let n4 = vec![in alloc; triple(3, 5)].expect(rt, "memory");
+    Normal {
+        atoms: 6,
+        named: Seq::of(named),
+        roles: 1,
+        n1,
+        n2: Seq::of(n2),
+        n3: Seq::of(Vec::new(alloc)),
+        n4: Seq::of(n4),
+        n5: Seq::of(Vec::new(alloc)),
+    }
+}
+
+/// The index of `with_a_universal`.
+pub fn universal_index(rt: &impl Abort, alloc: Global) -> Index
+    ensures { is_named result.normal 2 ≡ true }
+{
+    let normal = with_a_universal(rt, alloc);
+    let closure = Closure::of(alloc, normal.roles, normal.n5.items()).expect(rt, "memory");
+    Index::of(alloc, normal, closure).expect(rt, "memory")
+}

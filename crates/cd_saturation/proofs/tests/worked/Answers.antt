@@ -1,5 +1,0 @@
-use Rattle.cd_saturation.proofs.CoreRuns.{way_ended}
-use Rattle.cd_saturation.proofs.tests.worked.Goals as goal
-
-pub returns : goal.returns
-returns g c = way_ended 2 _ _ c.requires c.in-Ok.ensures.ok.settled
