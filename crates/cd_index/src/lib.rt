@@ -12,6 +12,3 @@ mod walk;
 
 pub use closure::Closure;
 pub use index::Index;
-
-#[cfg(test)]
-mod tests;
