@@ -8,7 +8,7 @@ use Rattle.cd_names.specs.Names.{number}
 use Rattle.cd_lex.specs.declared.token.Token.{Token}
 use Rattle.cd_lex.specs.Lexing.{IsLexing}
 use Rattle.cd_lex.specs.Machine.{State}
-use Rattle.cd_lex.specs.Tokens.{Piece, Blank, Comment, Lexeme, spelled, spelled_kind, IsCut, placed, Ending, AtEnd, AtBad, HasItems}
+use Rattle.cd_lex.specs.Tokens.{Piece, Blank, Comment, Lexeme, spelled, IsCut, placed, Ending, AtEnd, AtBad, HasItems}
 use Rattle.cd_lex.proofs.CutLaws.{begins_shorter}
 use Rattle.cd_syntax.specs.declared.item.Item.{Item}
 use Rattle.cd_syntax.specs.declared.known.Known.{Known}
@@ -150,8 +150,8 @@ few_placed bytes (Blank b ∷ more) rest at (behind, begins, cut) =
     omega (arith, begins_shorter bytes (Blank b) behind begins, few_placed behind more rest (at + 1) cut)
 few_placed bytes (Comment c ∷ more) rest at (behind, begins, cut) =
     omega (arith, begins_shorter bytes (Comment c) behind begins, few_placed behind more rest (at + length (spelled (Comment c))) cut)
-few_placed bytes (Lexeme kind ∷ more) rest at (behind, begins, cut) =
-    omega (arith, begins_shorter bytes (Lexeme kind) behind begins, few_placed behind more rest (at + length (spelled_kind kind)) cut)
+few_placed bytes (Lexeme kind token ∷ more) rest at (behind, begins, cut) =
+    omega (arith, begins_shorter bytes (Lexeme kind token) behind begins, few_placed behind more rest (at + length token) cut)
 
 -- a token is a byte or more
 pub few_tokens : (bytes : List ℕ) (tokens : List Token) (ending : Ending) → HasItems bytes tokens ending → length tokens ≤ length bytes

@@ -16,7 +16,7 @@ use Rattle.cd_lex.specs.declared.token.Kind.{Kind}
 use Rattle.cd_lex.specs.declared.token.Token.{Token}
 use Rattle.cd_lex.specs.Lexing.{IsLexing}
 use Rattle.cd_lex.specs.Machine.{State}
-use Rattle.cd_lex.specs.Tokens.{is_name_byte, Piece, Blank, Comment, Lexeme, spelled, spelled_kind, IsKind, IsCut, placed, Ending, AtEnd, AtBad, HasItems}
+use Rattle.cd_lex.specs.Tokens.{is_name_byte, Piece, Blank, Comment, Lexeme, spelled, IsKind, IsCut, placed, Ending, AtEnd, AtBad, HasItems}
 use Rattle.cd_syntax.specs.declared.item.Item.{Item}
 use Rattle.cd_syntax.specs.declared.item.Item.TheVariants.{Short, FullIri}
 use Rattle.cd_syntax.specs.declared.known.Known.{Known}
@@ -139,7 +139,7 @@ kinds_placed : (bytes : List ℕ) (pieces : List Piece) (rest : List ℕ) (at : 
 kinds_placed bytes [] rest at cut = tt
 kinds_placed bytes (Blank b ∷ more) rest at (behind, begins, cut) = kinds_placed behind more rest (at + 1) cut
 kinds_placed bytes (Comment c ∷ more) rest at (behind, begins, cut) = kinds_placed behind more rest (at + length (spelled (Comment c))) cut
-kinds_placed bytes (Lexeme kind ∷ more) rest at (behind, begins, cut) = (begins.is_piece, kinds_placed behind more rest (at + length (spelled_kind kind)) cut)
+kinds_placed bytes (Lexeme kind token ∷ more) rest at (behind, begins, cut) = (begins.is_piece.0, kinds_placed behind more rest (at + length token) cut)
 
 kinds_cut : (bytes : List ℕ) (pieces : List Piece) (rest : List ℕ) → IsCut bytes pieces rest → All (λ (token : Token). IsKind token.kind) (placed 0 pieces)
 kinds_cut bytes pieces rest cut = All-from_recursion (λ (token : Token). IsKind token.kind) (placed 0 pieces) (kinds_placed bytes pieces rest 0 cut)

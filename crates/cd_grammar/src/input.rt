@@ -46,7 +46,7 @@ impl From<Memory> for ReadRefusal {
 const PIECE: usize = 65_536;
 
 /// The document that the bytes of a source are, up to its end. Linear in the bytes, however the source cuts them. What is held beside
-/// the document are the bytes of one read and the unfinished token.
+/// the document are the bytes of one read and the unfinished token, of a string or a language tag nothing.
 ///
 /// All of the input is taken before it is judged, and never more than one byte past the limit.
 pub fn read_document<S: Source>(

@@ -10,7 +10,7 @@
 //! and stops at the first fault, and with that the laws of the definitions that need it: it decides what a text is (`laws`).
 //!
 //! The time is linear in the bytes, however they are cut. Nothing recurs over the input, and what is held beside the document is the
-//! bytes of one read and the unfinished token.
+//! bytes of one read and the unfinished token, of a string or a language tag nothing.
 #![tactic(auto)]
 
 mod cause;

@@ -4,7 +4,7 @@ use Rattle.std.specs.Prelude.{Option, Some, None}
 use Rattle.cd_lex.specs.declared.token.Kind.TheVariants.{Opening, Closing, Equals, Carets, Word, Short, Node, FullIri, Quoted, Lang}
 use Rattle.cd_lex.specs.declared.token.Token.{Token}
 use Rattle.cd_lex.specs.Showing.{ShowsTokens, ShowsBad, ItemsAreUnique}
-use Rattle.cd_lex.specs.Tokens.{Piece, escaped, spelled, spelled_kind, IsPiece, IsLongest, BeginsWith, IsCut, IsBad, placed, length_of, Ending, AtEnd, AtBad, HasItems}
+use Rattle.cd_lex.specs.Tokens.{Piece, escaped, spelled, IsPiece, IsLongest, BeginsWith, IsCut, IsBad, placed, length_of, Ending, AtEnd, AtBad, HasItems}
 use Rattle.cd_lex.proofs.CutFirst.{first_piece, Finds, first_found, piece_found, piece_only}
 
 -- ---- one piece
@@ -23,22 +23,25 @@ begins_unique bytes p q r s h k =
 some_first : (b : ℕ) (front back : List ℕ) → 0 < length ((b ∷ front) ++ back)
 some_first b front back = omega (arith, length-append (b ∷ front) back)
 
+some_as : (bytes front : List ℕ) → bytes ≡ front → 0 < length front → 0 < length bytes
+some_as bytes front is some = subst (λ (xs : List ℕ). 0 < length xs) (sym is) some
+
 -- no piece is empty
 pub spelled_some : (p : Piece) → IsPiece p → 0 < length (spelled p)
 spelled_some (Piece.Blank b) is = omega arith
 spelled_some (Piece.Comment c) is = omega arith
-spelled_some (Piece.Lexeme Opening) is = omega arith
-spelled_some (Piece.Lexeme Closing) is = omega arith
-spelled_some (Piece.Lexeme Equals) is = omega arith
-spelled_some (Piece.Lexeme Carets) is = omega arith
-spelled_some (Piece.Lexeme (Word [])) is = absurd (is.0 refl)
-spelled_some (Piece.Lexeme (Word (b ∷ w))) is = omega arith
-spelled_some (Piece.Lexeme (Short p l)) ((w, spells, plain, word), name) =
-    omega (arith, length-append p l, ap length spells, length-append w (58 ∷ []))
-spelled_some (Piece.Lexeme (Node l)) is = omega arith
-spelled_some (Piece.Lexeme (FullIri i)) is = some_first 60 i (62 ∷ [])
-spelled_some (Piece.Lexeme (Quoted s)) is = some_first 34 (escaped s) (34 ∷ [])
-spelled_some (Piece.Lexeme (Lang t)) is = omega arith
+spelled_some (Piece.Lexeme Opening bytes) is = some_as bytes (40 ∷ []) is.1 (omega arith)
+spelled_some (Piece.Lexeme Closing bytes) is = some_as bytes (41 ∷ []) is.1 (omega arith)
+spelled_some (Piece.Lexeme Equals bytes) is = some_as bytes (61 ∷ []) is.1 (omega arith)
+spelled_some (Piece.Lexeme Carets bytes) is = some_as bytes (94 ∷ 94 ∷ []) is.1 (omega arith)
+spelled_some (Piece.Lexeme (Word []) bytes) is = absurd (is.0.0 refl)
+spelled_some (Piece.Lexeme (Word (b ∷ w)) bytes) is = some_as bytes (b ∷ w) is.1 (omega arith)
+spelled_some (Piece.Lexeme (Short p l) bytes) (((w, spells, plain, word), name), is) =
+    some_as bytes (p ++ l) is (omega (arith, length-append p l, ap length spells, length-append w (58 ∷ [])))
+spelled_some (Piece.Lexeme (Node l) bytes) is = some_as bytes (95 ∷ 58 ∷ l) is.1 (omega arith)
+spelled_some (Piece.Lexeme (FullIri i) bytes) is = some_as bytes (60 ∷ i ++ 62 ∷ []) is.1 (some_first 60 i (62 ∷ []))
+spelled_some (Piece.Lexeme Quoted bytes) (valid, (s, is)) = some_as bytes (34 ∷ escaped s ++ 34 ∷ []) is (some_first 34 (escaped s) (34 ∷ []))
+spelled_some (Piece.Lexeme Lang bytes) (valid, (t, is, letter, tag)) = some_as bytes (64 ∷ t) is (omega arith)
 
 pub begins_length : (bytes : List ℕ) (p : Piece) (rest : List ℕ) → BeginsWith bytes p rest → length bytes ≡ length (spelled p) + length rest
 begins_length bytes p rest h = ap length h.split ∙ length-append (spelled p) rest
@@ -51,16 +54,16 @@ pub longest_more : (p : Piece) (c : ℕ) (rest more : List ℕ) → IsLongest p 
 longest_more (Piece.Blank b) c rest more h = tt
 longest_more (Piece.Comment text) c rest more (inl none) = cc
 longest_more (Piece.Comment text) c rest more (inr ends) = inr ends
-longest_more (Piece.Lexeme Opening) c rest more h = tt
-longest_more (Piece.Lexeme Closing) c rest more h = tt
-longest_more (Piece.Lexeme Equals) c rest more h = tt
-longest_more (Piece.Lexeme Carets) c rest more h = tt
-longest_more (Piece.Lexeme (Word w)) c rest more h = h
-longest_more (Piece.Lexeme (Short p l)) c rest more h = h
-longest_more (Piece.Lexeme (Node l)) c rest more h = h
-longest_more (Piece.Lexeme (FullIri i)) c rest more h = tt
-longest_more (Piece.Lexeme (Quoted s)) c rest more h = tt
-longest_more (Piece.Lexeme (Lang t)) c rest more h = h
+longest_more (Piece.Lexeme Opening bytes) c rest more h = tt
+longest_more (Piece.Lexeme Closing bytes) c rest more h = tt
+longest_more (Piece.Lexeme Equals bytes) c rest more h = tt
+longest_more (Piece.Lexeme Carets bytes) c rest more h = tt
+longest_more (Piece.Lexeme (Word w) bytes) c rest more h = h
+longest_more (Piece.Lexeme (Short p l) bytes) c rest more h = h
+longest_more (Piece.Lexeme (Node l) bytes) c rest more h = h
+longest_more (Piece.Lexeme (FullIri i) bytes) c rest more h = tt
+longest_more (Piece.Lexeme Quoted bytes) c rest more h = tt
+longest_more (Piece.Lexeme Lang bytes) c rest more h = h
 
 pub begins_more : (bytes : List ℕ) (p : Piece) (rest more : List ℕ) → BeginsWith bytes p rest → IsLongest p (rest ++ more) → BeginsWith (bytes ++ more) p (rest ++ more)
 begins_more bytes p rest more h longest = record {
@@ -140,12 +143,12 @@ placed-append at (Piece.Comment c ∷ p) q =
     let n : ℕ = at + length (spelled (Piece.Comment c)) in
     placed-append n p q
     ∙ ap (λ (ts : List Token). placed n p ++ ts) (at_same (n + length_of p) (at + length_of (Piece.Comment c ∷ p)) q (omega arith))
-placed-append at (Piece.Lexeme kind ∷ p) q =
-    let n : ℕ = at + length (spelled_kind kind) in
+placed-append at (Piece.Lexeme kind bytes ∷ p) q =
+    let n : ℕ = at + length bytes in
     let here : Token = record { kind = kind; place = at } in
     ap (λ (ts : List Token). here ∷ ts)
     (placed-append n p q
-    ∙ ap (λ (ts : List Token). placed n p ++ ts) (at_same (n + length_of p) (at + length_of (Piece.Lexeme kind ∷ p)) q (omega arith)))
+    ∙ ap (λ (ts : List Token). placed n p ++ ts) (at_same (n + length_of p) (at + length_of (Piece.Lexeme kind bytes ∷ p)) q (omega arith)))
 
 -- ---- every text has a cut
 
@@ -218,13 +221,17 @@ items_are_unique = record { some = items_exist; one = items_unique }
 
 -- ---- what the first bytes show
 
--- whatever follows, these pieces come first
-pub shows_tokens : (bytes : List ℕ) (pieces : List Piece) (behind : List ℕ → List ℕ) → ((more : List ℕ) → IsCut (bytes ++ more) pieces (behind more))
-    → ShowsTokens bytes (placed 0 pieces)
-shows_tokens bytes pieces behind cuts more all ending has =
+-- the tokens that are shown are the first, whatever follows
+pub tokens_first : (bytes : List ℕ) (tokens : List Token) → ShowsTokens bytes tokens → (more : List ℕ) (all : List Token) (ending : Ending)
+    → HasItems (bytes ++ more) all ending → (later : List Token) × (all ≡ tokens ++ later)
+tokens_first bytes tokens (pieces, after, are, cuts) more all ending has =
+    let (rest, cut) = cuts more in
     let a = items_cut (bytes ++ more) all ending has in
-    let (later, is, cut) = cut_front (bytes ++ more) (behind more) a.rest pieces a.pieces (cuts more) a.cut a.stuck in
-    (placed (0 + length_of pieces) later, a.are ∙ ap (placed 0) is ∙ placed-append 0 pieces later)
+    let (later, is, onwards) = cut_front (bytes ++ more) rest a.rest pieces a.pieces cut a.cut a.stuck in
+    let behind : List Token = placed (0 + length_of pieces) later in (
+      after ++ behind,
+      a.are ∙ ap (placed 0) is ∙ placed-append 0 pieces later ∙ ap (λ (ts : List Token). ts ++ behind) are ∙ append_assoc tokens after behind,
+    )
 
 -- whatever follows, a bad byte stands behind these pieces
 pub shows_bad : (bytes : List ℕ) (pieces : List Piece) (behind : List ℕ → List ℕ) → ((more : List ℕ) → IsCut (bytes ++ more) pieces (behind more))

@@ -106,22 +106,23 @@ module _ (taken : List Token) where
     place = h.place;
   }
 
-  pub token_ended : (tokens : List Token) (kind : Kind) (from : ℕ) (pieces : List Piece) → taken ++ tokens ≡ placed 0 pieces → from ≡ length_of pieces
-      → taken ++ (tokens ++ record { kind = kind; place = from } ∷ []) ≡ placed 0 (pieces ++ Lexeme kind ∷ [])
-  token_ended tokens kind from pieces ended begun =
+  pub token_ended : (tokens : List Token) (kind : Kind) (bytes : List ℕ) (from : ℕ) (pieces : List Piece) → taken ++ tokens ≡ placed 0 pieces → from ≡ length_of pieces
+      → taken ++ (tokens ++ record { kind = kind; place = from } ∷ []) ≡ placed 0 (pieces ++ Lexeme kind bytes ∷ [])
+  token_ended tokens kind bytes from pieces ended begun =
       let here : ℕ → Token = λ n. record { kind = kind; place = n } in
       let same : from ≡ 0 + length_of pieces = omega arith in
       sym (append_assoc taken tokens (here from ∷ [])) ∙ ap (λ (ts : List Token). ts ++ here from ∷ []) ended
-      ∙ ap (λ (n : ℕ). placed 0 pieces ++ here n ∷ []) same ∙ sym (placed-append 0 pieces (Lexeme kind ∷ []))
+      ∙ ap (λ (n : ℕ). placed 0 pieces ++ here n ∷ []) same ∙ sym (placed-append 0 pieces (Lexeme kind bytes ∷ []))
 
   -- a token ends
-  pub at_end : (s : State) (fed : List ℕ) (pieces : List Piece) (rest behind : List ℕ) (kind : Kind) → IsAt taken s fed pieces rest → s.from ≡ length_of pieces
-      → ((more : List ℕ) → BeginsWith (rest ++ more) (Lexeme kind) (behind ++ more)) → IsAt taken (end kind s) fed (pieces ++ Lexeme kind ∷ []) behind
-  at_end s fed pieces rest behind kind h begun first = record {
+  pub at_end : (s : State) (fed : List ℕ) (pieces : List Piece) (rest behind : List ℕ) (kind : Kind) (bytes : List ℕ) → IsAt taken s fed pieces rest
+      → s.from ≡ length_of pieces → ((more : List ℕ) → BeginsWith (rest ++ more) (Lexeme kind bytes) (behind ++ more))
+      → IsAt taken (end kind s) fed (pieces ++ Lexeme kind bytes ∷ []) behind
+  at_end s fed pieces rest behind kind bytes h begun first = record {
     closed = h.closed;
     fault = h.fault;
-    ended = token_ended s.tokens kind s.from pieces h.ended begun;
-    ahead = ahead_piece fed rest behind pieces (Lexeme kind) h.ahead first;
+    ended = token_ended s.tokens kind bytes s.from pieces h.ended begun;
+    ahead = ahead_piece fed rest behind pieces (Lexeme kind bytes) h.ahead first;
     place = h.place;
   }
 

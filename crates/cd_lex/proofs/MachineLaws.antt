@@ -8,7 +8,7 @@ use Rattle.cd_lex.specs.declared.token.LexFault.{LexFault}
 use Rattle.cd_lex.specs.declared.token.LexFault.TheVariants.{BadByte, Memory}
 use Rattle.cd_lex.specs.declared.machine.Mode.{Mode}
 use Rattle.cd_lex.specs.declared.machine.Mode.TheVariants.{Between, InComment, InWord, InLocal, InNode, InIri, InText, AfterBackslash, AfterCaret, AfterAt, InTag}
-use Rattle.cd_lex.specs.Tokens.{Piece, Comment, Lexeme, escaped, spelled, spelled_kind, IsKind, IsPiece, IsLongest, IsCut, IsBad, placed, length_of}
+use Rattle.cd_lex.specs.Tokens.{Piece, Comment, Lexeme, escaped, spelled, IsKind, IsSpelled, IsPiece, IsLongest, IsCut, IsBad, placed, length_of}
 use Rattle.cd_lex.specs.Machine.{State, start, without_kept, without_prefix, refuse, end, take_by, count, step, run, finish_by, close, closing}
 use Rattle.cd_lex.specs.Lexing.{IsCutAhead, IsUnfinished, IsBegunAt, IsAccount, IsLexing}
 use Rattle.cd_lex.proofs.CutLaws.{cut_append, placed-append}
@@ -104,11 +104,11 @@ module _ (taken : List Token) (s : State) (fed : List ℕ) where
           ([], record { split = is ∙ sym (append-nil (spelled piece)); is_piece = valid; is_longest = longest }, refl)
 
       token_at_end : (kind : Kind) (t : State) → t.fault ≡ s.fault → t.tokens ≡ s.tokens → t.from ≡ length_of pieces
-          → rest ≡ spelled_kind kind → IsKind kind → IsLongest (Lexeme kind) [] → Ended (close (end kind t))
+          → IsSpelled kind rest → IsKind kind → IsLongest (Lexeme kind rest) [] → Ended (close (end kind t))
       token_at_end kind t same_fault same_tokens from is valid longest =
-          lexing_from taken (close (end kind t)) fed (pieces ++ Lexeme kind ∷ []) [] true None refl (same_fault ∙ fault)
-          (token_ended taken t.tokens kind t.from pieces (ap (λ (ts : List Token). taken ++ ts) same_tokens ∙ ended) from)
-          (cut_to_end (Lexeme kind) is valid longest, refl)
+          lexing_from taken (close (end kind t)) fed (pieces ++ Lexeme kind rest ∷ []) [] true None refl (same_fault ∙ fault)
+          (token_ended taken t.tokens kind rest t.from pieces (ap (λ (ts : List Token). taken ++ ts) same_tokens ∙ ended) from)
+          (cut_to_end (Lexeme kind rest) refl (valid, is) longest, refl)
 
       unended : s.from ≡ length_of pieces → IsBad rest → Ended (close (refuse s))
       unended from bad =
@@ -128,11 +128,11 @@ module _ (taken : List Token) (s : State) (fed : List ℕ) where
       finish_law InLocal from (is, valid) = token_at_end (Short s.prefix s.kept) (without_prefix (without_kept s)) refl refl from is valid refl
       finish_law InNode from (is, valid) = token_at_end (Node s.kept) (without_kept s) refl refl from is valid refl
       finish_law InIri from (is, all) = unended_as (60 ∷ s.kept) from is (iri_unended s.kept all)
-      finish_law InText from is = unended_as (34 ∷ escaped s.kept) from is (string_unended s.kept)
-      finish_law AfterBackslash from is = unended_as ((34 ∷ escaped s.kept) ++ 92 ∷ []) from is (escape_unended s.kept)
+      finish_law InText from (text, is, none) = unended_as (34 ∷ escaped text) from is (string_unended text)
+      finish_law AfterBackslash from (text, is, none) = unended_as ((34 ∷ escaped text) ++ 92 ∷ []) from is (escape_unended text)
       finish_law AfterCaret from (is, empty) = unended_as (94 ∷ []) from is caret_unended
       finish_law AfterAt from (is, empty) = unended_as (64 ∷ []) from is at_unended
-      finish_law InTag from (is, valid) = token_at_end (Lang s.kept) (without_kept s) refl refl from is valid refl
+      finish_law InTag from (is, none) = token_at_end Lang s refl refl from is tt refl
 
     closing_by : (closed : Bool) (fault : Option LexFault) → s.closed ≡ closed → s.fault ≡ fault → IsAccount closed fault s fed pieces rest
         → Ended (cond (closed || is_some fault) (close s) (close (finish_by s.mode s)))

@@ -1,8 +1,7 @@
 -- What the state of a lexer tells of the text that it was fed.
-use Rattle.std.proofs.Common.{◌≡◌, ℕ, Bool, true, false, List, [], ◌∷◌, ◌++◌, length, refl, sym, ap, subst, ◌∙◌, inl, arith, append_assoc, append-nil, length-append}
+use Rattle.std.proofs.Common.{◌≡◌, ◌⊎◌, ℕ, ◌+◌, Bool, true, false, List, [], ◌∷◌, ◌++◌, length, refl, sym, ap, subst, ◌∙◌, inl, inr, arith, append_assoc, append-nil, length-append}
 use Rattle.std.specs.Prelude.{Option, Some, None}
 use Rattle.cd_base.specs.Iri.{is_iri_byte}
-use Rattle.cd_lex.specs.declared.token.Kind.{Kind}
 use Rattle.cd_lex.specs.declared.token.Kind.TheVariants.{Carets, Word, Short, Node, FullIri, Quoted, Lang}
 use Rattle.cd_lex.specs.declared.token.Token.{Token}
 use Rattle.cd_lex.specs.declared.token.LexFault.{LexFault}
@@ -10,12 +9,12 @@ use Rattle.cd_lex.specs.declared.token.LexFault.TheVariants.{BadByte, Memory}
 use Rattle.cd_lex.specs.declared.machine.Mode.{Mode}
 use Rattle.cd_lex.specs.declared.machine.Mode.TheVariants.{Between, InComment, InWord, InLocal, InNode, InIri, InText, AfterBackslash, AfterCaret, AfterAt, InTag}
 use Rattle.cd_lex.specs.Showing.{ShowsTokens, ShowsBad}
-use Rattle.cd_lex.specs.Tokens.{is_name_byte, is_lang_byte, is_letter, Piece, Comment, Lexeme, escaped, spelled, spelled_kind, IsKind, IsPiece, IsLongest, BeginsWith, IsCut, IsBad, placed, length_of, Ending, AtEnd, AtBad, HasItems}
+use Rattle.cd_lex.specs.Tokens.{is_name_byte, is_lang_byte, is_letter, Piece, Comment, Lexeme, escaped, spelled, IsPiece, IsLongest, BeginsWith, IsCut, IsBad, placed, length_of, Ending, AtEnd, AtBad, HasItems}
 use Rattle.cd_lex.specs.Machine.{State}
 use Rattle.cd_lex.specs.Lexing.{IsCutAhead, IsUnfinished, IsBegunAt, IsAccount, IsLexing, AreFirst, AreAll}
-use Rattle.cd_lex.proofs.CutLaws.{cut_append, placed-append, items_unique, shows_tokens, shows_bad}
+use Rattle.cd_lex.proofs.CutLaws.{cut_append, cut_front, end_is_stuck, placed-append, length_of-append, items_unique, tokens_first, shows_bad}
 use Rattle.cd_lex.proofs.MachineBad.{iri_unended, string_unended, escape_unended, caret_unended, at_unended}
-use Rattle.cd_lex.proofs.MachineAhead.{ahead_now, account_at, token_ended}
+use Rattle.cd_lex.proofs.MachineAhead.{ahead_now, account_at}
 use Rattle.cd_lex.proofs.MachineSteps.{all_more, some_more, begins_more, escaped_mark}
 
 -- ---- a bad byte
@@ -68,22 +67,32 @@ as_it_is rest front is = append-nil rest ∙ is
 completed : (mode : Mode) (s : State) (rest : List ℕ) → IsUnfinished mode s rest → (more : List ℕ) × IsCompleted rest more
 completed Between s rest (none, empty) = ([], ([], as_it_is rest [] none))
 completed InComment s rest (comment, is, plain, none) = completed_by rest [] (Comment comment) (as_it_is rest (35 ∷ comment) is) plain (inl refl)
-completed InWord s rest (is, valid) = completed_by rest [] (Lexeme (Word s.kept)) (as_it_is rest s.kept is) valid refl
-completed InLocal s rest (is, valid) = completed_by rest [] (Lexeme (Short s.prefix s.kept)) (as_it_is rest (s.prefix ++ s.kept) is) valid refl
-completed InNode s rest (is, valid) = completed_by rest [] (Lexeme (Node s.kept)) (as_it_is rest (95 ∷ 58 ∷ s.kept) is) valid refl
+completed InWord s rest (is, valid) = completed_by rest [] (Lexeme (Word s.kept) (rest ++ [])) refl (valid, as_it_is rest s.kept is) refl
+completed InLocal s rest (is, valid) = completed_by rest [] (Lexeme (Short s.prefix s.kept) (rest ++ [])) refl (valid, as_it_is rest (s.prefix ++ s.kept) is) refl
+completed InNode s rest (is, valid) = completed_by rest [] (Lexeme (Node s.kept) (rest ++ [])) refl (valid, as_it_is rest (95 ∷ 58 ∷ s.kept) is) refl
 completed InIri s rest (is, all) =
-    completed_by rest (97 ∷ 62 ∷ []) (Lexeme (FullIri (s.kept ++ 97 ∷ [])))
-    (then rest (60 ∷ s.kept) (97 ∷ 62 ∷ []) is ∙ sym (append_assoc (60 ∷ s.kept) (97 ∷ []) (62 ∷ [])))
-    (some_more s.kept 97, all_more is_iri_byte s.kept 97 all refl) tt
-completed InText s rest is = completed_by rest (34 ∷ []) (Lexeme (Quoted s.kept)) (then rest (34 ∷ escaped s.kept) (34 ∷ []) is) tt tt
-completed AfterBackslash s rest is =
-    completed_by rest (92 ∷ 34 ∷ []) (Lexeme (Quoted (s.kept ++ 92 ∷ [])))
-    (then rest ((34 ∷ escaped s.kept) ++ 92 ∷ []) (92 ∷ 34 ∷ []) is
-    ∙ sym (append_assoc ((34 ∷ escaped s.kept) ++ 92 ∷ []) (92 ∷ []) (34 ∷ []))
-    ∙ ap (λ (xs : List ℕ). 34 ∷ xs ++ 34 ∷ []) (escaped_mark s.kept 92 refl)) tt tt
-completed AfterCaret s rest (is, empty) = completed_by rest (94 ∷ []) (Lexeme Carets) (then rest (94 ∷ []) (94 ∷ []) is) tt tt
-completed AfterAt s rest (is, empty) = completed_by rest (97 ∷ []) (Lexeme (Lang (97 ∷ []))) (then rest (64 ∷ []) (97 ∷ []) is) (refl, refl) refl
-completed InTag s rest (is, valid) = completed_by rest [] (Lexeme (Lang s.kept)) (as_it_is rest (64 ∷ s.kept) is) valid refl
+    completed_by rest (97 ∷ 62 ∷ []) (Lexeme (FullIri (s.kept ++ 97 ∷ [])) (rest ++ 97 ∷ 62 ∷ [])) refl (
+      (some_more s.kept 97, all_more is_iri_byte s.kept 97 all refl),
+      then rest (60 ∷ s.kept) (97 ∷ 62 ∷ []) is ∙ sym (append_assoc (60 ∷ s.kept) (97 ∷ []) (62 ∷ [])),
+    ) tt
+completed InText s rest (text, is, none) =
+    completed_by rest (34 ∷ []) (Lexeme Quoted (rest ++ 34 ∷ [])) refl (tt, (text, then rest (34 ∷ escaped text) (34 ∷ []) is)) tt
+completed AfterBackslash s rest (text, is, none) =
+    completed_by rest (92 ∷ 34 ∷ []) (Lexeme Quoted (rest ++ 92 ∷ 34 ∷ [])) refl (
+      tt,
+      (
+        text ++ 92 ∷ [],
+        then rest ((34 ∷ escaped text) ++ 92 ∷ []) (92 ∷ 34 ∷ []) is
+            ∙ sym (append_assoc ((34 ∷ escaped text) ++ 92 ∷ []) (92 ∷ []) (34 ∷ []))
+            ∙ ap (λ (xs : List ℕ). 34 ∷ xs ++ 34 ∷ []) (escaped_mark text 92 refl),
+      ),
+    ) tt
+completed AfterCaret s rest (is, empty) =
+    completed_by rest (94 ∷ []) (Lexeme Carets (rest ++ 94 ∷ [])) refl (tt, then rest (94 ∷ []) (94 ∷ []) is) tt
+completed AfterAt s rest (is, empty) =
+    completed_by rest (97 ∷ []) (Lexeme Lang (rest ++ 97 ∷ [])) refl (tt, (97 ∷ [], then rest (64 ∷ []) (97 ∷ []) is, refl, refl)) refl
+completed InTag s rest ((t, is, letter, tag), none) =
+    completed_by rest [] (Lexeme Lang (rest ++ [])) refl (tt, (t, as_it_is rest (64 ∷ t) is, letter, tag)) refl
 
 end_is_not_bad : (m n : ℕ) → AtEnd m ≡ AtBad n → ⊥
 end_is_not_bad m n h = cc
@@ -100,17 +109,15 @@ none_shown s fed taken n closed fault h =
 
 -- ---- the ended tokens are shown
 
-first_of : (fed : List ℕ) (tokens later : List Token) → ShowsTokens fed (tokens ++ later) → ShowsTokens fed tokens
-first_of fed tokens later shows more all ending has =
-    let (behind, is) = shows more all ending has in (later ++ behind, is ∙ append_assoc tokens later behind)
+shown_ahead : (fed : List ℕ) (tokens later : List Token) (pieces : List Piece) (rest : List ℕ) → tokens ++ later ≡ placed 0 pieces → IsCutAhead fed pieces rest
+    → ShowsTokens fed tokens
+shown_ahead fed tokens later pieces rest ended ahead = (pieces, later, sym ended, λ more. (rest ++ more, ahead more))
 
-shown_by : (fault : Option LexFault) (s : State) (fed : List ℕ) (tokens : List Token) (pieces : List Piece) (rest : List ℕ) → tokens ≡ placed 0 pieces
+shown_by : (fault : Option LexFault) (s : State) (fed : List ℕ) (tokens later : List Token) (pieces : List Piece) (rest : List ℕ) → tokens ++ later ≡ placed 0 pieces
     → IsAccount false fault s fed pieces rest → ShowsTokens fed tokens
-shown_by None s fed tokens pieces rest ended (ahead, place, from, unfinished) =
-    subst (ShowsTokens fed) (sym ended) (shows_tokens fed pieces (λ (more : List ℕ). rest ++ more) ahead)
-shown_by (Some (BadByte n)) s fed tokens pieces rest ended (ahead, place, bad) =
-    subst (ShowsTokens fed) (sym ended) (shows_tokens fed pieces (λ (more : List ℕ). rest ++ more) ahead)
-shown_by (Some Memory) s fed tokens pieces rest ended h = absurd h
+shown_by None s fed tokens later pieces rest ended (ahead, place, from, unfinished) = shown_ahead fed tokens later pieces rest ended ahead
+shown_by (Some (BadByte n)) s fed tokens later pieces rest ended (ahead, place, bad) = shown_ahead fed tokens later pieces rest ended ahead
+shown_by (Some Memory) s fed tokens later pieces rest ended h = absurd h
 
 ended_by : (fault : Option LexFault) (s : State) (fed : List ℕ) (tokens : List Token) (pieces : List Piece) (rest : List ℕ) → tokens ≡ placed 0 pieces
     → IsAccount true fault s fed pieces rest → (ending : Ending) × HasItems fed tokens ending
@@ -120,7 +127,7 @@ ended_by (Some Memory) s fed tokens pieces rest ended h = absurd h
 
 first_by : (closed : Bool) (s : State) (fed : List ℕ) (tokens later : List Token) (pieces : List Piece) (rest : List ℕ) → tokens ++ later ≡ placed 0 pieces
     → IsAccount closed s.fault s fed pieces rest → AreFirst closed fed tokens
-first_by false s fed tokens later pieces rest ended h = first_of fed tokens later (shown_by s.fault s fed (tokens ++ later) pieces rest ended h)
+first_by false s fed tokens later pieces rest ended h = shown_by s.fault s fed tokens later pieces rest ended h
 first_by true s fed tokens later pieces rest ended h =
     let (ending, has) = ended_by s.fault s fed (tokens ++ later) pieces rest ended h in (later, ending, has)
 
@@ -138,33 +145,66 @@ too_long taken later token h = omega (arith, ap length h, length-append (taken +
 -- a text of which the taken tokens are all tokens
 no_more : (fed : List ℕ) (taken : List Token) (token : Token) (ending : Ending) → HasItems fed taken ending → ShowsTokens fed (taken ++ token ∷ []) → ⊥
 no_more fed taken token ending has shows =
-    let (later, is) = shows [] taken ending (subst (λ (xs : List ℕ). HasItems xs taken ending) (sym (append-nil fed)) has) in too_long taken later token is
+    let (later, is) = tokens_first fed (taken ++ token ∷ []) shows [] taken ending (subst (λ (xs : List ℕ). HasItems xs taken ending) (sym (append-nil fed)) has) in
+    too_long taken later token is
 
-next_is : (taken : List Token) (a b : Token) (later : List Token) → taken ++ a ∷ [] ≡ (taken ++ b ∷ []) ++ later → a ≡ b
-next_is [] a b later h = cc
-next_is (t ∷ taken) a b later h =
-    let tails : taken ++ a ∷ [] ≡ (taken ++ b ∷ []) ++ later = cc in next_is taken a b later tails
+-- what has one piece more ends with that piece or is a front of what has one less
+last_or_front : (p later pieces : List Piece) (x : Piece) → pieces ++ x ∷ [] ≡ p ++ later → (p ≡ pieces ++ x ∷ []) ⊎ ((more : List Piece) × (pieces ≡ p ++ more))
+last_or_front [] later pieces x h = inr (pieces, refl)
+last_or_front (a ∷ []) later [] x h =
+    let head : a ≡ x = cc in inl (ap (λ (y : Piece). y ∷ []) head)
+last_or_front (a ∷ c ∷ p) later [] x h = absurd cc
+last_or_front (a ∷ p) later (b ∷ pieces) x h =
+    let head : a ≡ b = cc in
+    let tails : pieces ++ x ∷ [] ≡ p ++ later = cc in
+    elim (last_or_front p later pieces x tails) [
+      | inl same ↦ inl (ap (λ (ps : List Piece). a ∷ ps) same ∙ ap (λ (y : Piece). y ∷ (pieces ++ x ∷ [])) head)
+      | inr (more, is) ↦ inr (more, ap (λ (ps : List Piece). b ∷ ps) is ∙ ap (λ (y : Piece). y ∷ (p ++ more)) (sym head))
+    ]
 
-module _ (fed : List ℕ) (taken : List Token) (token : Token) (pieces : List Piece) (rest : List ℕ) (from : ℕ) (ended : taken ++ [] ≡ placed 0 pieces)
-    (ahead : IsCutAhead fed pieces rest) (begun : from ≡ length_of pieces) (shows : ShowsTokens fed (taken ++ token ∷ [])) where
-  next_kind : (kind : Kind) (more : List ℕ) → rest ++ more ≡ spelled_kind kind → IsKind kind → IsLongest (Lexeme kind) [] → record { kind = kind; place = from } ≡ token
-  next_kind kind more spells is longest =
-      let here : Token = record { kind = kind; place = from } in
-      let whole : IsCut (fed ++ more) (pieces ++ Lexeme kind ∷ []) []
-      = cut_append (fed ++ more) (rest ++ more) [] pieces (Lexeme kind ∷ []) (ahead more) ([], one_piece rest more (Lexeme kind) spells is longest, refl) in
-      let tokens : taken ++ here ∷ [] ≡ placed 0 (pieces ++ Lexeme kind ∷ []) = token_ended taken [] kind from pieces ended begun in
-      let (later, first) = shows more (taken ++ here ∷ []) (AtEnd (length (fed ++ more))) (pieces ++ Lexeme kind ∷ [], whole, tokens, refl) in
-      next_is taken here token later first
+module _ (fed : List ℕ) (taken : List Token) (token : Token) (pieces : List Piece) (rest : List ℕ) (ended : taken ++ [] ≡ placed 0 pieces)
+    (ahead : IsCutAhead fed pieces rest) where
+  -- the pieces that show a further token are no front of those before it
+  no_front : (p more : List Piece) (after : List Token) → placed 0 p ≡ (taken ++ token ∷ []) ++ after → pieces ≡ p ++ more → ⊥
+  no_front p more after are is =
+      let behind : List Token = placed (0 + length_of p) more in
+      let e : taken ++ [] ≡ ((taken ++ token ∷ []) ++ after) ++ behind
+      = ended ∙ ap (placed 0) is ∙ placed-append 0 p more ∙ ap (λ (ts : List Token). ts ++ behind) are in
+      omega (
+        arith,
+        ap length e,
+        length-append taken [],
+        length-append ((taken ++ token ∷ []) ++ after) behind,
+        length-append (taken ++ token ∷ []) after,
+        length-append taken (token ∷ []),
+      )
 
-  -- one of two names, as the next byte is in the name or not
-  two_kinds : (a b : Kind) (more : List ℕ) → rest ++ [] ≡ spelled_kind a → IsKind a → IsLongest (Lexeme a) []
-      → rest ++ more ≡ spelled_kind b → IsKind b → IsLongest (Lexeme b) [] → a ≡ b
-  two_kinds a b more spells_a is_a longest_a spells_b is_b longest_b =
-      ap (λ (t : Token). t.kind) (next_kind a [] spells_a is_a longest_a) ∙ ap (λ (t : Token). t.kind) (sym (next_kind b more spells_b is_b longest_b))
+  -- they are the pieces before it and each one that the rest can become
+  shown_are : (p : List Piece) (after : List Token) → placed 0 p ≡ (taken ++ token ∷ []) ++ after → ((more : List ℕ) → (r : List ℕ) × IsCut (fed ++ more) p r)
+      → (x : Piece) (more : List ℕ) → rest ++ more ≡ spelled x → IsPiece x → IsLongest x [] → p ≡ pieces ++ x ∷ []
+  shown_are p after are cuts x more spells is longest =
+      let whole : IsCut (fed ++ more) (pieces ++ x ∷ []) []
+      = cut_append (fed ++ more) (rest ++ more) [] pieces (x ∷ []) (ahead more) ([], one_piece rest more x spells is longest, refl) in
+      let (r, cut) = cuts more in
+      let (later, front, onwards) = cut_front (fed ++ more) r [] p (pieces ++ x ∷ []) cut whole end_is_stuck in
+      elim (last_or_front p later pieces x front) [ inl same ↦ same | inr (fewer, is) ↦ absurd (no_front p fewer after are is) ]
 
-same_spelled : (front : List ℕ) (a b : Kind) → a ≡ b → spelled_kind a ≡ front → spelled_kind b ≡ front ++ 97 ∷ [] → ⊥
-same_spelled front a b same is_a is_b =
-    let e : front ≡ front ++ 97 ∷ [] = sym is_a ∙ ap spelled_kind same ∙ is_b in omega (arith, ap length e, length-append front (97 ∷ []))
+  -- no token is shown where the rest is a piece, and is one with one more byte too
+  two_ends : ShowsTokens fed (taken ++ token ∷ []) → (a b : Piece) (c : ℕ) → rest ++ [] ≡ spelled a → IsPiece a → IsLongest a []
+      → rest ++ c ∷ [] ≡ spelled b → IsPiece b → IsLongest b [] → ⊥
+  two_ends (p, after, are, cuts) a b c spells_a is_a longest_a spells_b is_b longest_b =
+      let same : pieces ++ a ∷ [] ≡ pieces ++ b ∷ []
+      = sym (shown_are p after are cuts a [] spells_a is_a longest_a) ∙ shown_are p after are cuts b (c ∷ []) spells_b is_b longest_b in
+      omega (
+        arith,
+        ap length_of same,
+        length_of-append pieces (a ∷ []),
+        length_of-append pieces (b ∷ []),
+        ap length spells_a,
+        ap length spells_b,
+        length-append rest [],
+        length-append rest (c ∷ []),
+      )
 
 none_further : (mode : Mode) (s : State) (fed : List ℕ) (taken : List Token) (token : Token) (pieces : List Piece) (rest : List ℕ) → taken ++ [] ≡ placed 0 pieces
     → IsCutAhead fed pieces rest → IsBegunAt mode s.from (length_of pieces) → IsUnfinished mode s rest → ShowsTokens fed (taken ++ token ∷ []) → ⊥
@@ -179,33 +219,30 @@ none_further InComment s fed taken token pieces rest ended ahead from (comment, 
       refl,
     ) shows
 none_further InWord s fed taken token pieces rest ended ahead from (is, (some, word)) shows =
-    same_spelled s.kept (Word s.kept) (Word (s.kept ++ 97 ∷ []))
-    (two_kinds fed taken token pieces rest s.from ended ahead from shows (Word s.kept) (Word (s.kept ++ 97 ∷ [])) (97 ∷ [])
-    (as_it_is rest s.kept is) (some, word) refl (then rest s.kept (97 ∷ []) is) (some_more s.kept 97, all_more _ s.kept 97 word refl) refl) refl refl
+    two_ends fed taken token pieces rest ended ahead shows (Lexeme (Word s.kept) (rest ++ [])) (Lexeme (Word (s.kept ++ 97 ∷ [])) (rest ++ 97 ∷ [])) 97
+    refl ((some, word), as_it_is rest s.kept is) refl
+    refl ((some_more s.kept 97, all_more _ s.kept 97 word refl), then rest s.kept (97 ∷ []) is) refl
 none_further InLocal s fed taken token pieces rest ended ahead from (is, (prefix, local)) shows =
-    same_spelled (s.prefix ++ s.kept) (Short s.prefix s.kept) (Short s.prefix (s.kept ++ 97 ∷ []))
-    (two_kinds fed taken token pieces rest s.from ended ahead from shows (Short s.prefix s.kept) (Short s.prefix (s.kept ++ 97 ∷ [])) (97 ∷ [])
-    (as_it_is rest (s.prefix ++ s.kept) is) (prefix, local) refl
-    (then rest (s.prefix ++ s.kept) (97 ∷ []) is ∙ append_assoc s.prefix s.kept (97 ∷ [])) (prefix, all_more is_name_byte s.kept 97 local refl) refl)
-    refl (sym (append_assoc s.prefix s.kept (97 ∷ [])))
+    two_ends fed taken token pieces rest ended ahead shows (Lexeme (Short s.prefix s.kept) (rest ++ [])) (Lexeme (Short s.prefix (s.kept ++ 97 ∷ [])) (rest ++ 97 ∷ [])) 97
+    refl ((prefix, local), as_it_is rest (s.prefix ++ s.kept) is) refl
+    refl ((prefix, all_more is_name_byte s.kept 97 local refl), then rest (s.prefix ++ s.kept) (97 ∷ []) is ∙ append_assoc s.prefix s.kept (97 ∷ [])) refl
 none_further InNode s fed taken token pieces rest ended ahead from (is, label) shows =
-    same_spelled (95 ∷ 58 ∷ s.kept) (Node s.kept) (Node (s.kept ++ 97 ∷ []))
-    (two_kinds fed taken token pieces rest s.from ended ahead from shows (Node s.kept) (Node (s.kept ++ 97 ∷ [])) (97 ∷ [])
-    (as_it_is rest (95 ∷ 58 ∷ s.kept) is) label refl (then rest (95 ∷ 58 ∷ s.kept) (97 ∷ []) is) (all_more is_name_byte s.kept 97 label refl) refl) refl refl
-none_further InTag s fed taken token pieces rest ended ahead from (is, (letter, tag)) shows =
-    same_spelled (64 ∷ s.kept) (Lang s.kept) (Lang (s.kept ++ 97 ∷ []))
-    (two_kinds fed taken token pieces rest s.from ended ahead from shows (Lang s.kept) (Lang (s.kept ++ 97 ∷ [])) (97 ∷ [])
-    (as_it_is rest (64 ∷ s.kept) is) (letter, tag) refl (then rest (64 ∷ s.kept) (97 ∷ []) is)
-    (begins_more is_letter s.kept (97 ∷ []) letter, all_more is_lang_byte s.kept 97 tag refl) refl) refl refl
+    two_ends fed taken token pieces rest ended ahead shows (Lexeme (Node s.kept) (rest ++ [])) (Lexeme (Node (s.kept ++ 97 ∷ [])) (rest ++ 97 ∷ [])) 97
+    refl (label, as_it_is rest (95 ∷ 58 ∷ s.kept) is) refl
+    refl (all_more is_name_byte s.kept 97 label refl, then rest (95 ∷ 58 ∷ s.kept) (97 ∷ []) is) refl
+none_further InTag s fed taken token pieces rest ended ahead from ((t, is, letter, tag), empty) shows =
+    two_ends fed taken token pieces rest ended ahead shows (Lexeme Lang (rest ++ [])) (Lexeme Lang (rest ++ 97 ∷ [])) 97
+    refl (tt, (t, as_it_is rest (64 ∷ t) is, letter, tag)) refl
+    refl (tt, (t ++ 97 ∷ [], then rest (64 ∷ t) (97 ∷ []) is, begins_more is_letter t (97 ∷ []) letter, all_more is_lang_byte t 97 tag refl)) refl
 none_further InIri s fed taken token pieces rest ended ahead from (is, all) shows =
     no_more fed taken token (AtBad s.from)
     (pieces, rest, ahead_now fed rest pieces ahead, subst IsBad (sym is) (iri_unended s.kept all), sym (append-nil taken) ∙ ended, from) shows
-none_further InText s fed taken token pieces rest ended ahead from is shows =
+none_further InText s fed taken token pieces rest ended ahead from (text, is, empty) shows =
     no_more fed taken token (AtBad s.from)
-    (pieces, rest, ahead_now fed rest pieces ahead, subst IsBad (sym is) (string_unended s.kept), sym (append-nil taken) ∙ ended, from) shows
-none_further AfterBackslash s fed taken token pieces rest ended ahead from is shows =
+    (pieces, rest, ahead_now fed rest pieces ahead, subst IsBad (sym is) (string_unended text), sym (append-nil taken) ∙ ended, from) shows
+none_further AfterBackslash s fed taken token pieces rest ended ahead from (text, is, empty) shows =
     no_more fed taken token (AtBad s.from)
-    (pieces, rest, ahead_now fed rest pieces ahead, subst IsBad (sym is) (escape_unended s.kept), sym (append-nil taken) ∙ ended, from) shows
+    (pieces, rest, ahead_now fed rest pieces ahead, subst IsBad (sym is) (escape_unended text), sym (append-nil taken) ∙ ended, from) shows
 none_further AfterCaret s fed taken token pieces rest ended ahead from (is, empty) shows =
     no_more fed taken token (AtBad s.from)
     (pieces, rest, ahead_now fed rest pieces ahead, subst IsBad (sym is) caret_unended, sym (append-nil taken) ∙ ended, from) shows

@@ -9,8 +9,8 @@ use Rattle.cd_lex.specs.declared.token.Kind.TheVariants.{Opening, Closing, Equal
 use Rattle.cd_lex.specs.declared.token.Token.{Token}
 use Rattle.cd_lex.specs.declared.machine.Mode.{Mode}
 use Rattle.cd_lex.specs.declared.machine.Mode.TheVariants.{Between, InComment, InWord, InLocal, InNode, InIri, InText, AfterBackslash, AfterCaret, AfterAt, InTag}
-use Rattle.cd_lex.specs.Tokens.{is_between, is_blank, is_letter, is_name_byte, is_word_byte, is_lang_byte, ends_line, Piece, Blank, Comment, Lexeme, escaped, spelled, spelled_kind, begins, IsPrefixName, IsKind, IsLongest, IsBad, length_of}
-use Rattle.cd_lex.specs.Machine.{State, begin, turn, keep, without_kept, without_prefix, end, refuse, end_word, end_short, end_node, end_iri, end_text, end_tag, is_underscore, begin_node, begin_local, take_colon, single, take_sign, take_mark, take_between, take_in_comment, take_in_word, take_in_local, take_in_node, is_empty, take_in_iri, take_in_text, take_after_backslash, take_after_caret, take_after_at, take_in_tag, count}
+use Rattle.cd_lex.specs.Tokens.{is_between, is_blank, is_letter, is_name_byte, is_word_byte, is_lang_byte, ends_line, Piece, Blank, Comment, Lexeme, escaped, spelled, begins, IsPrefixName, IsKind, IsSpelled, IsLongest, IsBad, length_of}
+use Rattle.cd_lex.specs.Machine.{State, begin, turn, keep, without_kept, without_prefix, end, refuse, end_word, end_short, end_node, end_iri, is_underscore, begin_node, begin_local, take_colon, single, take_sign, take_mark, take_between, take_in_comment, take_in_word, take_in_local, take_in_node, is_empty, take_in_iri, take_in_text, take_after_backslash, take_after_caret, take_after_at, take_in_tag, count}
 use Rattle.cd_lex.specs.Lexing.{IsUnfinished}
 use Rattle.cd_lex.proofs.CutRuns.{by_cases, chosen_true, chosen_false}
 use Rattle.cd_lex.proofs.MachineBad.{first_bad, iri_bad, escape_bad, caret_bad, at_bad}
@@ -96,13 +96,12 @@ module _ (taken : List Token) (s : State) (fed : List ℕ) (pieces : List Piece)
         (at_gap taken s fed pieces (b ∷ []) [] (Blank b) here (λ at. refl) (begins_ahead (b ∷ []) [] (Blank b) refl is (λ more. tt))))
         refl tt (refl, none)
 
-    mark_ends : (mark : ℕ) (kind : Kind) → spelled_kind kind ≡ mark ∷ [] → IsKind kind → ((more : List ℕ) → IsLongest (Lexeme kind) more)
+    mark_ends : (mark : ℕ) (kind : Kind) → IsKind kind → IsSpelled kind (mark ∷ []) → ((more : List ℕ) → IsLongest (Lexeme kind (mark ∷ [])) more)
         → (b == mark) ≡ true → Goal (single kind s)
-    mark_ends mark kind spells is longest same =
-        goes_on taken Between (single kind s) fed (pieces ++ Lexeme kind ∷ []) []
-        (at_end taken (begin Between s) fed pieces (b ∷ []) [] kind (begun Between) place
-        (begins_ahead (b ∷ []) [] (Lexeme kind)
-        (ap (λ (x : ℕ). x ∷ []) (eqb-true b mark same) ∙ sym spells ∙ sym (append-nil (spelled_kind kind))) is longest))
+    mark_ends mark kind is spells longest same =
+        goes_on taken Between (single kind s) fed (pieces ++ Lexeme kind (mark ∷ []) ∷ []) []
+        (at_end taken (begin Between s) fed pieces (b ∷ []) [] kind (mark ∷ []) (begun Between) place
+        (begins_ahead (b ∷ []) [] (Lexeme kind (mark ∷ [])) (ap (λ (x : ℕ). x ∷ []) (eqb-true b mark same)) (is, spells) longest))
         refl tt (refl, none)
 
     sign_begins : (mark : ℕ) → (b == mark) ≡ true → b ∷ [] ≡ mark ∷ s.kept
@@ -121,7 +120,7 @@ module _ (taken : List Token) (s : State) (fed : List ℕ) (pieces : List Piece)
         (sign_begins 60 is, ap (list_all is_iri_byte) none))
         (λ less. by_cases Goal (b == 34) (begin InText s) _
         (λ is. goes_on taken InText (begin InText s) fed pieces (b ∷ []) (begun InText) refl place
-        (sign 34 is ∙ ap (λ (xs : List ℕ). 34 ∷ escaped xs) (sym none)))
+        ([], sign 34 is, none))
         (λ quote. by_cases Goal (b == 94) (begin AfterCaret s) _
         (λ is. goes_on taken AfterCaret (begin AfterCaret s) fed pieces (b ∷ []) (begun AfterCaret) refl place (sign 94 is, none))
         (λ caret. by_cases Goal (b == 64) (begin AfterAt s) (refuse (begin Between s))
@@ -143,9 +142,9 @@ module _ (taken : List Token) (s : State) (fed : List ℕ) (pieces : List Piece)
     mark_law : is_blank b ≡ false → is_name_byte b ≡ false → Goal (take_mark b s)
     unfolding take_mark
     mark_law blank name =
-        by_cases Goal (b == 40) (single Opening s) _ (mark_ends 40 Opening refl tt (λ more. tt))
-        (λ opening. by_cases Goal (b == 41) (single Closing s) _ (mark_ends 41 Closing refl tt (λ more. tt))
-        (λ closing. by_cases Goal (b == 61) (single Equals s) (take_sign b s) (mark_ends 61 Equals refl tt (λ more. tt))
+        by_cases Goal (b == 40) (single Opening s) _ (mark_ends 40 Opening tt refl (λ more. tt))
+        (λ opening. by_cases Goal (b == 41) (single Closing s) _ (mark_ends 41 Closing tt refl (λ more. tt))
+        (λ closing. by_cases Goal (b == 61) (single Equals s) (take_sign b s) (mark_ends 61 Equals tt refl (λ more. tt))
         (λ equals. sign_law blank name opening closing equals)))
 
     prefix_name : IsPrefixName (s.kept ++ 58 ∷ [])
@@ -175,22 +174,22 @@ module _ (taken : List Token) (s : State) (fed : List ℕ) (pieces : List Piece)
     (here : IsAt taken s fed pieces (rest ++ b ∷ [])) where
   -- the token ends before the byte at hand
   ended : (kind : Kind) (t : State) → IsAt taken t fed pieces (rest ++ b ∷ []) → t.from ≡ length_of pieces → t.kept ≡ []
-      → rest ≡ spelled_kind kind → IsKind kind → ((more : List ℕ) → IsLongest (Lexeme kind) (b ∷ more))
+      → IsSpelled kind rest → IsKind kind → ((more : List ℕ) → IsLongest (Lexeme kind rest) (b ∷ more))
       → IsOpen taken (count (take_between b (end kind t))) fed
   ended kind t at_t from none spells is longest =
-      between_law taken (end kind t) fed (pieces ++ Lexeme kind ∷ []) b
-      (at_end taken t fed pieces (rest ++ b ∷ []) (b ∷ []) kind at_t from
-      (begins_ahead (rest ++ b ∷ []) (b ∷ []) (Lexeme kind) (split_off (spelled_kind kind) b rest spells) is longest))
+      between_law taken (end kind t) fed (pieces ++ Lexeme kind rest ∷ []) b
+      (at_end taken t fed pieces (rest ++ b ∷ []) (b ∷ []) kind rest at_t from
+      (begins_ahead (rest ++ b ∷ []) (b ∷ []) (Lexeme kind rest) refl (is, spells) longest))
       none
 
   -- the token ends with the byte at hand
   closed_by : (kind : Kind) (t : State) → IsAt taken t fed pieces (rest ++ b ∷ []) → t.from ≡ length_of pieces → t.kept ≡ []
-      → rest ++ b ∷ [] ≡ spelled_kind kind → IsKind kind → ((more : List ℕ) → IsLongest (Lexeme kind) more)
+      → IsSpelled kind (rest ++ b ∷ []) → IsKind kind → ((more : List ℕ) → IsLongest (Lexeme kind (rest ++ b ∷ [])) more)
       → IsOpen taken (count (end kind t)) fed
   closed_by kind t at_t from none spells is longest =
-      goes_on taken Between (end kind t) fed (pieces ++ Lexeme kind ∷ []) []
-      (at_end taken t fed pieces (rest ++ b ∷ []) [] kind at_t from
-      (begins_ahead (rest ++ b ∷ []) [] (Lexeme kind) (spells ∙ sym (append-nil (spelled_kind kind))) is longest))
+      goes_on taken Between (end kind t) fed (pieces ++ Lexeme kind (rest ++ b ∷ []) ∷ []) []
+      (at_end taken t fed pieces (rest ++ b ∷ []) [] kind (rest ++ b ∷ []) at_t from
+      (begins_ahead (rest ++ b ∷ []) [] (Lexeme kind (rest ++ b ∷ [])) (sym (append-nil (rest ++ b ∷ []))) (is, spells) longest))
       refl tt (refl, none)
 
   without : IsAt taken (without_kept s) fed pieces (rest ++ b ∷ [])
@@ -252,7 +251,7 @@ module _ (taken : List Token) (s : State) (fed : List ℕ) (pieces : List Piece)
         by_cases Then (is_name_byte b) (keep b s) (take_between b (end_node s))
         (λ name.
         goes_on taken InNode (keep b s) fed pieces (rest ++ b ∷ []) (same (keep b s) refl refl refl refl) mode from
-        (split_off (spelled_kind (Node s.kept)) b rest is, all_more is_name_byte s.kept b label name))
+        (split_off (95 ∷ 58 ∷ s.kept) b rest is, all_more is_name_byte s.kept b label name))
         (λ name. ended (Node s.kept) (without_kept s) without from refl is label (λ more. name))
 
     iri_refused : rest ≡ 60 ∷ s.kept → list_all is_iri_byte s.kept ≡ true → is_iri_byte b ≡ false → (s.kept ≡ []) ⊎ ((b == 62) ≡ false) → Then (refuse s)
@@ -278,30 +277,33 @@ module _ (taken : List Token) (s : State) (fed : List ℕ) (pieces : List Piece)
 
     pub text_law : s.mode ≡ InText → IsUnfinished InText s rest → Then (take_in_text b s)
     unfolding take_in_text
-    text_law mode is =
-        by_cases Then (b == 34) (end_text s) _
+    text_law mode (text, is, none) =
+        let quoted : List ℕ = 34 ∷ escaped text in
+        by_cases Then (b == 34) (end Quoted s) _
         (λ quote.
-        closed_by (Quoted s.kept) (without_kept s) without from refl
-        (split_off (34 ∷ escaped s.kept) b rest is ∙ ap (λ (x : ℕ). (34 ∷ escaped s.kept) ++ x ∷ []) (eqb-true b 34 quote)) tt (λ more. tt))
-        (λ quote. by_cases Then (b == 92) (turn AfterBackslash s) (keep b s)
+        closed_by Quoted s here from none (text, split_off quoted b rest is ∙ ap (λ (x : ℕ). quoted ++ x ∷ []) (eqb-true b 34 quote)) tt (λ more. tt))
+        (λ quote. by_cases Then (b == 92) (turn AfterBackslash s) s
         (λ slash.
         goes_on taken AfterBackslash (turn AfterBackslash s) fed pieces (rest ++ b ∷ []) (same (turn AfterBackslash s) refl refl refl refl) refl from
-        (split_off (34 ∷ escaped s.kept) b rest is ∙ ap (λ (x : ℕ). (34 ∷ escaped s.kept) ++ x ∷ []) (eqb-true b 92 slash)))
+        (text, split_off quoted b rest is ∙ ap (λ (x : ℕ). quoted ++ x ∷ []) (eqb-true b 92 slash), none))
         (λ slash.
-        goes_on taken InText (keep b s) fed pieces (rest ++ b ∷ []) (same (keep b s) refl refl refl refl) mode from
-        (split_off (34 ∷ escaped s.kept) b rest is ∙ ap (λ (xs : List ℕ). 34 ∷ xs) (escaped_plain s.kept b (or_from (b == 34) (b == 92) quote slash)))))
+        goes_on taken InText s fed pieces (rest ++ b ∷ []) here mode from (
+          text ++ b ∷ [],
+          split_off quoted b rest is ∙ ap (λ (xs : List ℕ). 34 ∷ xs) (escaped_plain text b (or_from (b == 34) (b == 92) quote slash)),
+          none,
+        )))
 
     pub backslash_law : s.mode ≡ AfterBackslash → IsUnfinished AfterBackslash s rest → Then (take_after_backslash b s)
     unfolding take_after_backslash
-    backslash_law mode is =
-        by_cases Then (b == 34 || b == 92) (keep b (turn InText s)) (refuse s)
+    backslash_law mode (text, is, none) =
+        let quoted : List ℕ = (34 ∷ escaped text) ++ 92 ∷ [] in
+        by_cases Then (b == 34 || b == 92) (turn InText s) (refuse s)
         (λ mark.
-        goes_on taken InText (keep b (turn InText s)) fed pieces (rest ++ b ∷ []) (same (keep b (turn InText s)) refl refl refl refl) refl from
-        (split_off ((34 ∷ escaped s.kept) ++ 92 ∷ []) b rest is ∙ ap (λ (xs : List ℕ). 34 ∷ xs) (escaped_mark s.kept b mark)))
+        goes_on taken InText (turn InText s) fed pieces (rest ++ b ∷ []) (same (turn InText s) refl refl refl refl) refl from
+        (text ++ b ∷ [], split_off quoted b rest is ∙ ap (λ (xs : List ℕ). 34 ∷ xs) (escaped_mark text b mark), none))
         (λ other.
         refuses taken s fed pieces (rest ++ b ∷ []) here from
-        (λ more.
-        subst (λ (xs : List ℕ). IsBad (xs ++ more)) (sym (split_off ((34 ∷ escaped s.kept) ++ 92 ∷ []) b rest is)) (escape_bad s.kept b more other)))
+        (λ more. subst (λ (xs : List ℕ). IsBad (xs ++ more)) (sym (split_off quoted b rest is)) (escape_bad text b more other)))
 
     pub caret_law : s.mode ≡ AfterCaret → IsUnfinished AfterCaret s rest → Then (take_after_caret b s)
     unfolding take_after_caret
@@ -317,26 +319,21 @@ module _ (taken : List Token) (s : State) (fed : List ℕ) (pieces : List Piece)
     pub at_law : s.mode ≡ AfterAt → IsUnfinished AfterAt s rest → Then (take_after_at b s)
     unfolding take_after_at
     at_law mode (is, none) =
-        by_cases Then (is_letter b) (keep b (turn InTag s)) (refuse s)
+        by_cases Then (is_letter b) (turn InTag s) (refuse s)
         (λ letter.
-        goes_on taken InTag (keep b (turn InTag s)) fed pieces (rest ++ b ∷ []) (same (keep b (turn InTag s)) refl refl refl refl) refl from (
-          split_off (64 ∷ []) b rest is ∙ ap (λ (xs : List ℕ). 64 ∷ (xs ++ b ∷ [])) (sym none),
-          (
-            ap (λ (xs : List ℕ). begins is_letter (xs ++ b ∷ [])) none ∙ letter,
-            all_more is_lang_byte s.kept b (ap (list_all is_lang_byte) none) (letter_in_lang b letter),
-          ),
-        ))
+        goes_on taken InTag (turn InTag s) fed pieces (rest ++ b ∷ []) (same (turn InTag s) refl refl refl refl) refl from
+        ((b ∷ [], split_off (64 ∷ []) b rest is, letter, and_from (is_lang_byte b) true (letter_in_lang b letter) refl), none))
         (λ other.
         refuses taken s fed pieces (rest ++ b ∷ []) here from
         (λ more. subst (λ (xs : List ℕ). IsBad (xs ++ more)) (sym (split_off (64 ∷ []) b rest is)) (at_bad b more other)))
 
     pub tag_law : s.mode ≡ InTag → IsUnfinished InTag s rest → Then (take_in_tag b s)
     unfolding take_in_tag
-    tag_law mode (is, (letter, tag)) =
-        by_cases Then (is_lang_byte b) (keep b s) (take_between b (end_tag s))
+    tag_law mode ((t, is, letter, tag), none) =
+        by_cases Then (is_lang_byte b) s (take_between b (end Lang s))
         (λ lang.
-        goes_on taken InTag (keep b s) fed pieces (rest ++ b ∷ []) (same (keep b s) refl refl refl refl) mode from (
-          split_off (spelled_kind (Lang s.kept)) b rest is,
-          (begins_more is_letter s.kept (b ∷ []) letter, all_more is_lang_byte s.kept b tag lang),
+        goes_on taken InTag s fed pieces (rest ++ b ∷ []) here mode from (
+          (t ++ b ∷ [], split_off (64 ∷ t) b rest is, begins_more is_letter t (b ∷ []) letter, all_more is_lang_byte t b tag lang),
+          none,
         ))
-        (λ other. ended (Lang s.kept) (without_kept s) without from refl is (letter, tag) (λ more. other))
+        (λ other. ended Lang s here from none (t, is, letter, tag) tt (λ more. other))

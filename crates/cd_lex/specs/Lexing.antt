@@ -9,7 +9,7 @@ use Rattle.cd_lex.specs.declared.token.LexFault.TheVariants.{BadByte, Memory}
 use Rattle.cd_lex.specs.declared.machine.Mode.{Mode}
 use Rattle.cd_lex.specs.declared.machine.Mode.TheVariants.{Between, InComment, InWord, InLocal, InNode, InIri, InText, AfterBackslash, AfterCaret, AfterAt, InTag}
 use Rattle.cd_lex.specs.Showing.{ShowsTokens, ShowsBad}
-use Rattle.cd_lex.specs.Tokens.{Piece, Comment, IsKind, IsPiece, IsCut, IsBad, spelled, spelled_kind, escaped, placed, length_of, Ending, AtEnd, AtBad, HasItems}
+use Rattle.cd_lex.specs.Tokens.{Piece, Comment, IsKind, IsSpelled, IsPiece, IsCut, IsBad, spelled, escaped, placed, length_of, Ending, AtEnd, AtBad, HasItems}
 use Rattle.cd_lex.specs.Machine.{State}
 
 -- ---- what a state means
@@ -18,19 +18,19 @@ use Rattle.cd_lex.specs.Machine.{State}
 abbrev pub IsCutAhead : List ℕ → List Piece → List ℕ → Type 0
 IsCutAhead fed pieces rest = (more : List ℕ) → IsCut (fed ++ more) pieces (rest ++ more)
 
--- the rest is the front of such a piece as the mode says, and what is kept of it is kept
+-- the rest is the front of such a piece as the mode says, and of a name or a full IRI it is kept
 abbrev pub IsUnfinished : Mode → State → List ℕ → Type 0
 IsUnfinished Between s rest = (rest ≡ []) × (s.kept ≡ [])
 IsUnfinished InComment s rest = (comment : List ℕ) × (rest ≡ spelled (Comment comment)) × IsPiece (Comment comment) × (s.kept ≡ [])
 IsUnfinished InWord s rest = (rest ≡ s.kept) × IsKind (Word s.kept)
 IsUnfinished InLocal s rest = (rest ≡ s.prefix ++ s.kept) × IsKind (Short s.prefix s.kept)
-IsUnfinished InNode s rest = (rest ≡ spelled_kind (Node s.kept)) × IsKind (Node s.kept)
+IsUnfinished InNode s rest = (rest ≡ 95 ∷ 58 ∷ s.kept) × IsKind (Node s.kept)
 IsUnfinished InIri s rest = (rest ≡ 60 ∷ s.kept) × IsTrue (list_all is_iri_byte s.kept)
-IsUnfinished InText s rest = rest ≡ 34 ∷ escaped s.kept
-IsUnfinished AfterBackslash s rest = rest ≡ (34 ∷ escaped s.kept) ++ 92 ∷ []
+IsUnfinished InText s rest = (text : List ℕ) × (rest ≡ 34 ∷ escaped text) × (s.kept ≡ [])
+IsUnfinished AfterBackslash s rest = (text : List ℕ) × (rest ≡ (34 ∷ escaped text) ++ 92 ∷ []) × (s.kept ≡ [])
 IsUnfinished AfterCaret s rest = (rest ≡ 94 ∷ []) × (s.kept ≡ [])
 IsUnfinished AfterAt s rest = (rest ≡ 64 ∷ []) × (s.kept ≡ [])
-IsUnfinished InTag s rest = (rest ≡ spelled_kind (Lang s.kept)) × IsKind (Lang s.kept)
+IsUnfinished InTag s rest = IsSpelled Lang rest × (s.kept ≡ [])
 
 -- while something is unfinished, the lexer knows where it began
 abbrev pub IsBegunAt : Mode → ℕ → ℕ → Type 0

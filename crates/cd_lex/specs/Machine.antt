@@ -17,7 +17,7 @@ pub record State : Type 0 where
   pub mode : Mode
   -- the prefix of a short name, with its colon
   pub prefix : List ℕ
-  -- the bytes of the unfinished token, as the token will hold them
+  -- the bytes of the unfinished token, as the token will hold them: none of a string or a language tag
   pub kept : List ℕ
   -- how many bytes stand before the unfinished token
   pub from : ℕ
@@ -73,12 +73,6 @@ end_node s = end (Node s.kept) (without_kept s)
 
 abbrev pub end_iri : State → State
 end_iri s = end (FullIri s.kept) (without_kept s)
-
-abbrev pub end_text : State → State
-end_text s = end (Quoted s.kept) (without_kept s)
-
-abbrev pub end_tag : State → State
-end_tag s = end (Lang s.kept) (without_kept s)
 
 -- the first colon of a name: a node's after a single `_`, or the end of a prefix
 abbrev pub is_underscore : List ℕ → Bool
@@ -146,19 +140,19 @@ take_in_iri b s =
     if is_iri_byte b then keep b s else (if is_empty s.kept then refuse s else (if b == 62 then end_iri s else refuse s))
 
 unfoldable pub take_in_text : ℕ → State → State
-take_in_text b s = if b == 34 then end_text s else (if b == 92 then turn AfterBackslash s else keep b s)
+take_in_text b s = if b == 34 then end Quoted s else (if b == 92 then turn AfterBackslash s else s)
 
 unfoldable pub take_after_backslash : ℕ → State → State
-take_after_backslash b s = if b == 34 || b == 92 then keep b (turn InText s) else refuse s
+take_after_backslash b s = if b == 34 || b == 92 then turn InText s else refuse s
 
 unfoldable pub take_after_caret : ℕ → State → State
 take_after_caret b s = if b == 94 then end Carets s else refuse s
 
 unfoldable pub take_after_at : ℕ → State → State
-take_after_at b s = if is_letter b then keep b (turn InTag s) else refuse s
+take_after_at b s = if is_letter b then turn InTag s else refuse s
 
 unfoldable pub take_in_tag : ℕ → State → State
-take_in_tag b s = if is_lang_byte b then keep b s else take_between b (end_tag s)
+take_in_tag b s = if is_lang_byte b then s else take_between b (end Lang s)
 
 abbrev pub take_by : Mode → ℕ → State → State
 take_by Between = take_between
@@ -206,7 +200,7 @@ finish_by InText s = refuse s
 finish_by AfterBackslash s = refuse s
 finish_by AfterCaret s = refuse s
 finish_by AfterAt s = refuse s
-finish_by InTag s = end_tag s
+finish_by InTag s = end Lang s
 
 abbrev pub close : State → State
 close s = record s { closed = true }

@@ -1,12 +1,12 @@
 -- What the first bytes of a text show of its items, whatever follows.
 use Rattle.std.specs.Prelude.{◌≡◌, ℕ, List, ◌++◌}
 use Rattle.cd_lex.specs.declared.token.Token.{Token}
-use Rattle.cd_lex.specs.Tokens.{Ending, AtBad, HasItems}
+use Rattle.cd_lex.specs.Tokens.{Piece, IsCut, placed, Ending, AtBad, HasItems}
 
--- these are its first tokens
+-- these are its first tokens, and they have ended: the text begins with pieces of which they are the first tokens
 abbrev pub ShowsTokens : List ℕ → List Token → Type 0
-ShowsTokens bytes tokens = (more : List ℕ) (all : List Token) (ending : Ending) → HasItems (bytes ++ more) all ending
-    → (later : List Token) × (all ≡ tokens ++ later)
+ShowsTokens bytes tokens = (pieces : List Piece) × (later : List Token) × (placed 0 pieces ≡ tokens ++ later)
+    × ((more : List ℕ) → (rest : List ℕ) × IsCut (bytes ++ more) pieces rest)
 
 -- it has a bad byte at this place
 abbrev pub ShowsBad : List ℕ → ℕ → Type 0

@@ -38,29 +38,18 @@ ends_line b = b == 10 || b == 13
 pub data Piece : Type 0 where
   Blank : ℕ → Piece
   Comment : List ℕ → Piece
-  Lexeme : Kind → Piece
+  -- a token of this kind, and its bytes
+  Lexeme : Kind → List ℕ → Piece
 
 -- each `"` and `\` with a `\` before it
 abbrev pub escaped : List ℕ → List ℕ
 escaped [] = []
 escaped (b ∷ more) = if b == 34 || b == 92 then 92 ∷ b ∷ escaped more else b ∷ escaped more
 
-abbrev pub spelled_kind : Kind → List ℕ
-spelled_kind Opening = 40 ∷ []
-spelled_kind Closing = 41 ∷ []
-spelled_kind Equals = 61 ∷ []
-spelled_kind Carets = 94 ∷ 94 ∷ []
-spelled_kind (Word w) = w
-spelled_kind (Short p l) = p ++ l
-spelled_kind (Node l) = 95 ∷ 58 ∷ l
-spelled_kind (FullIri i) = 60 ∷ i ++ 62 ∷ []
-spelled_kind (Quoted s) = 34 ∷ escaped s ++ 34 ∷ []
-spelled_kind (Lang t) = 64 ∷ t
-
 abbrev pub spelled : Piece → List ℕ
 spelled (Blank b) = b ∷ []
 spelled (Comment c) = 35 ∷ c
-spelled (Lexeme kind) = spelled_kind kind
+spelled (Lexeme kind bytes) = bytes
 
 -- the text is not empty, and its first byte passes
 abbrev pub begins : (ℕ → Bool) → List ℕ → Bool
@@ -76,26 +65,38 @@ IsKind (Word w) = (w ≢ []) × IsTrue (list_all is_word_byte w)
 IsKind (Short p l) = IsPrefixName p × IsTrue (list_all is_name_byte l)
 IsKind (Node l) = IsTrue (list_all is_name_byte l)
 IsKind (FullIri i) = IsIri i
-IsKind (Lang t) = IsTrue (begins is_letter t) × IsTrue (list_all is_lang_byte t)
 IsKind other = Unit {0}
+
+-- these bytes are a token of this kind: the ones that the kind tells, any string, or any language tag
+abbrev pub IsSpelled : Kind → List ℕ → Type 0
+IsSpelled Opening bytes = bytes ≡ 40 ∷ []
+IsSpelled Closing bytes = bytes ≡ 41 ∷ []
+IsSpelled Equals bytes = bytes ≡ 61 ∷ []
+IsSpelled Carets bytes = bytes ≡ 94 ∷ 94 ∷ []
+IsSpelled (Word w) bytes = bytes ≡ w
+IsSpelled (Short p l) bytes = bytes ≡ p ++ l
+IsSpelled (Node l) bytes = bytes ≡ 95 ∷ 58 ∷ l
+IsSpelled (FullIri i) bytes = bytes ≡ 60 ∷ i ++ 62 ∷ []
+IsSpelled Quoted bytes = (s : List ℕ) × (bytes ≡ 34 ∷ escaped s ++ 34 ∷ [])
+IsSpelled Lang bytes = (t : List ℕ) × (bytes ≡ 64 ∷ t) × IsTrue (begins is_letter t) × IsTrue (list_all is_lang_byte t)
 
 abbrev pub IsPiece : Piece → Type 0
 IsPiece (Blank b) = IsTrue (is_blank b)
 IsPiece (Comment c) = IsTrue (list_all (λ b. not (ends_line b)) c)
-IsPiece (Lexeme kind) = IsKind kind
+IsPiece (Lexeme kind bytes) = IsKind kind × IsSpelled kind bytes
 
 -- with this behind it, no longer piece begins where this one does
 abbrev pub IsLongestKind : Kind → List ℕ → Type 0
 IsLongestKind (Word w) rest = begins is_name_byte rest ≡ false
 IsLongestKind (Short p l) rest = begins is_name_byte rest ≡ false
 IsLongestKind (Node l) rest = begins is_name_byte rest ≡ false
-IsLongestKind (Lang t) rest = begins is_lang_byte rest ≡ false
+IsLongestKind Lang rest = begins is_lang_byte rest ≡ false
 IsLongestKind other rest = Unit {0}
 
 abbrev pub IsLongest : Piece → List ℕ → Type 0
 IsLongest (Blank b) rest = Unit {0}
 IsLongest (Comment c) rest = (rest ≡ []) ⊎ IsTrue (begins ends_line rest)
-IsLongest (Lexeme kind) rest = IsLongestKind kind rest
+IsLongest (Lexeme kind bytes) rest = IsLongestKind kind rest
 
 -- the text begins with this piece, and the rest stands behind it
 pub record BeginsWith (bytes : List ℕ) (piece : Piece) (rest : List ℕ) : Type 0 where
@@ -115,7 +116,7 @@ IsBad bytes = (bytes ≢ []) × ((piece : Piece) (rest : List ℕ) → BeginsWit
 -- the kinds of the tokens among pieces
 abbrev pub kinds : List Piece → List Kind
 kinds [] = []
-kinds (Lexeme kind ∷ more) = kind ∷ kinds more
+kinds (Lexeme kind bytes ∷ more) = kind ∷ kinds more
 kinds (other ∷ more) = kinds more
 
 -- ---- the items of a text
@@ -125,7 +126,7 @@ abbrev pub placed : ℕ → List Piece → List Token
 placed at [] = []
 placed at (Blank b ∷ more) = placed (at + 1) more
 placed at (Comment c ∷ more) = placed (at + length (spelled (Comment c))) more
-placed at (Lexeme kind ∷ more) = record { kind = kind; place = at } ∷ placed (at + length (spelled_kind kind)) more
+placed at (Lexeme kind bytes ∷ more) = record { kind = kind; place = at } ∷ placed (at + length bytes) more
 
 abbrev pub length_of : List Piece → ℕ
 length_of [] = 0

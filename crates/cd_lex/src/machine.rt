@@ -1,7 +1,7 @@
 //! The lexer's state, and its steps over single bytes.
 ghost use Rattle.std.specs.Prelude.{◌≡◌, ◌+◌, ◌<◌, ◌≤◌, ◌^◌, IfOk, IfSome, true, length};
 ghost use Rattle.cd_lex.specs.Lexing.{answer_of};
-ghost use Rattle.cd_lex.specs.Machine.{IsBeside, is_underscore, is_empty, begin, turn, keep, end, refuse, without_kept, without_prefix, end_word, end_short, end_node, end_iri, end_text, end_tag, begin_node, begin_local, IsRun, IsPopped, start, take_colon, single, take_sign, take_mark, take_between, take_in_comment, take_in_word, take_in_local, take_in_node, take_in_iri, take_in_text, take_after_backslash, take_after_caret, take_after_at, take_in_tag, take_by, step, run, finish_by, closing};
+ghost use Rattle.cd_lex.specs.Machine.{IsBeside, is_underscore, is_empty, begin, turn, keep, end, refuse, without_kept, without_prefix, end_word, end_short, end_node, end_iri, begin_node, begin_local, IsRun, IsPopped, start, take_colon, single, take_sign, take_mark, take_between, take_in_comment, take_in_word, take_in_local, take_in_node, take_in_iri, take_in_text, take_after_backslash, take_after_caret, take_after_at, take_in_tag, take_by, step, run, finish_by, closing};
 
 use crate::bytes::{ends_line, is_blank, is_iri_byte, is_lang_byte, is_letter, is_name_byte};
 use crate::token::{Kind, LexFault, Token};
@@ -159,24 +159,6 @@ impl Lexer {
     {
         let iri = self.take_kept();
         self.end(Kind::FullIri(iri))
-    }
-
-    /// What is kept is a string.
-    fn end_text(&mut self) -> Result<(), Memory>
-        ensures done { IfOk result (λ _. self.new ≡ end_text self.old) }
-        ensures beside { IsBeside self.old self.new }
-    {
-        let text = self.take_kept();
-        self.end(Kind::Quoted(text))
-    }
-
-    /// What is kept is a language tag.
-    fn end_tag(&mut self) -> Result<(), Memory>
-        ensures done { IfOk result (λ _. self.new ≡ end_tag self.old) }
-        ensures beside { IsBeside self.old self.new }
-    {
-        let tag = self.take_kept();
-        self.end(Kind::Lang(tag))
     }
 
     /// Whether a single `_` is kept, which a colon turns into an anonymous individual.
@@ -362,26 +344,24 @@ impl Lexer {
         ensures beside { IsBeside self.old self.new }
     {
         if byte == b'"' {
-            return self.end_text();
+            return self.end(Kind::Quoted);
         }
         if byte == b'\\' {
             self.turn(Mode::AfterBackslash);
-            return Ok(());
         }
-        self.keep(byte)
+        Ok(())
     }
 
     #[tactic(auto, unfolding(crate::specs::Machine::take_after_backslash))]
-    fn take_after_backslash(&mut self, byte: u8) -> Result<(), Memory>
-        ensures done { IfOk result (λ _. self.new ≡ take_after_backslash byte self.old) }
+    fn take_after_backslash(&mut self, byte: u8)
+        ensures done { self.new ≡ take_after_backslash byte self.old }
         ensures beside { IsBeside self.old self.new }
     {
         if byte == b'"' || byte == b'\\' {
             self.turn(Mode::InText);
-            return self.keep(byte);
+        } else {
+            self.refuse();
         }
-        self.refuse();
-        Ok(())
     }
 
     #[tactic(auto, unfolding(crate::specs::Machine::take_after_caret))]
@@ -397,16 +377,15 @@ impl Lexer {
     }
 
     #[tactic(auto, unfolding(crate::specs::Machine::take_after_at))]
-    fn take_after_at(&mut self, byte: u8) -> Result<(), Memory>
-        ensures done { IfOk result (λ _. self.new ≡ take_after_at byte self.old) }
+    fn take_after_at(&mut self, byte: u8)
+        ensures done { self.new ≡ take_after_at byte self.old }
         ensures beside { IsBeside self.old self.new }
     {
         if is_letter(byte) {
             self.turn(Mode::InTag);
-            return self.keep(byte);
+        } else {
+            self.refuse();
         }
-        self.refuse();
-        Ok(())
     }
 
     #[tactic(auto, unfolding(crate::specs::Machine::take_in_tag))]
@@ -415,9 +394,9 @@ impl Lexer {
         ensures beside { IsBeside self.old self.new }
     {
         if is_lang_byte(byte) {
-            return self.keep(byte);
+            return Ok(());
         }
-        self.end_tag()?;
+        self.end(Kind::Lang)?;
         self.take_between(byte)
     }
 
@@ -434,9 +413,15 @@ impl Lexer {
             Mode::InNode => self.take_in_node(byte),
             Mode::InIri => self.take_in_iri(byte),
             Mode::InText => self.take_in_text(byte),
-            Mode::AfterBackslash => self.take_after_backslash(byte),
+            Mode::AfterBackslash => {
+                self.take_after_backslash(byte);
+                Ok(())
+            }
             Mode::AfterCaret => self.take_after_caret(byte),
-            Mode::AfterAt => self.take_after_at(byte),
+            Mode::AfterAt => {
+                self.take_after_at(byte);
+                Ok(())
+            }
             Mode::InTag => self.take_in_tag(byte),
         }
     }
@@ -483,7 +468,7 @@ impl Lexer {
             Mode::InWord => self.end_word(),
             Mode::InLocal => self.end_short(),
             Mode::InNode => self.end_node(),
-            Mode::InTag => self.end_tag(),
+            Mode::InTag => self.end(Kind::Lang),
             Mode::InIri | Mode::InText | Mode::AfterBackslash | Mode::AfterCaret | Mode::AfterAt =>
                 {
                     self.refuse();

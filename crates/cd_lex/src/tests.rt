@@ -5,7 +5,7 @@ use crate::{Kind, LexFault, Lexer, Token};
 use std::alloc::{AllocError, Global};
 use std::test::Fail;
 
-/// A byte for the kind, the bytes of the token with one `|` between two parts, and its place.
+/// A byte for the kind, the bytes that the token holds with one `|` between two parts, and its place.
 fn push_token(out: &mut Vec<u8>, token: &Token) -> Result<(), AllocError> {
     let (kind, first, second): (u8, &[u8], &[u8]) = match &token.kind {
         Kind::Opening => (b'(', &[], &[]),
@@ -16,8 +16,8 @@ fn push_token(out: &mut Vec<u8>, token: &Token) -> Result<(), AllocError> {
         Kind::Short(prefix, local) => (b's', prefix.items(), local.items()),
         Kind::Node(label) => (b'n', label.items(), &[]),
         Kind::FullIri(iri) => (b'i', iri.items(), &[]),
-        Kind::Quoted(text) => (b'q', text.items(), &[]),
-        Kind::Lang(tag) => (b'l', tag.items(), &[]),
+        Kind::Quoted => (b'q', &[], &[]),
+        Kind::Lang => (b'l', &[], &[]),
     };
     out.push(kind)?;
     out.extend_from_slice(first)?;
@@ -128,9 +128,9 @@ fn each_kind_of_token_is_told_apart(rt: HostRuntime) -> Result<(), Fail> {
         (":A", b"s:|A\0\0\0\0\0\0\0\0".as_slice()),
         ("_:a", b"na|\0\0\0\0\0\0\0\0".as_slice()),
         (" <x:A>", b"ix:A|\0\0\0\0\0\0\0\x01".as_slice()),
-        ("\"a\\\"b\\\\\"", b"qa\"b\\|\0\0\0\0\0\0\0\0".as_slice()),
+        ("\"a\\\"b\\\\\"", b"q|\0\0\0\0\0\0\0\0".as_slice()),
         ("#=(\r^^", b"^|\0\0\0\0\0\0\0\x04".as_slice()),
-        ("@en-GB", b"len-GB|\0\0\0\0\0\0\0\0".as_slice()),
+        ("@en-GB", b"l|\0\0\0\0\0\0\0\0".as_slice()),
     ] {
         assert_eq!(rt;
             tokens_of(alloc, text.as_bytes(), b"")?.as_slice(),

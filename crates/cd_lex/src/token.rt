@@ -20,10 +20,10 @@ pub enum Kind {
     Node(Seq<u8>),
     /// A full IRI, without `<` and `>`.
     FullIri(Seq<u8>),
-    /// A string, without its quotes and with its escapes undone.
-    Quoted(Seq<u8>),
-    /// A language tag, without `@`.
-    Lang(Seq<u8>),
+    /// A string. Its bytes are not kept.
+    Quoted,
+    /// A language tag. Its bytes are not kept.
+    Lang,
 }
 
 /// A token, and how many bytes of the text stand before it.

@@ -3,7 +3,7 @@ use Rattle.std.proofs.Common.{◌≡◌, ◌⊎◌, ℕ, ◌+◌, List, [], ◌�
 use Rattle.std.proofs.lemmas.List.{map-append}
 use Rattle.cd_lex.specs.declared.token.Kind.{Kind}
 use Rattle.cd_lex.specs.declared.token.Token.{Token}
-use Rattle.cd_lex.specs.Tokens.{Piece, Blank, Comment, Lexeme, spelled, spelled_kind, BeginsWith, IsCut, kinds, placed, length_of, HasItems, Ending, AtEnd, AtBad}
+use Rattle.cd_lex.specs.Tokens.{Piece, Blank, Comment, Lexeme, spelled, BeginsWith, IsCut, kinds, placed, length_of, HasItems, Ending, AtEnd, AtBad}
 use Rattle.cd_lex.proofs.CutLaws.{begins_unique, end_is_stuck, cut_length}
 use Rattle.cd_syntax.specs.declared.item.Item.{Item}
 use Rattle.cd_syntax.specs.Fault.{Next, End, Bad, IsNext}
@@ -16,14 +16,14 @@ pub kinds-append : (p q : List Piece) → kinds (p ++ q) ≡ kinds p ++ kinds q
 kinds-append [] q = refl
 kinds-append (Blank b ∷ p) q = kinds-append p q
 kinds-append (Comment c ∷ p) q = kinds-append p q
-kinds-append (Lexeme kind ∷ p) q = ap (λ (ks : List Kind). kind ∷ ks) (kinds-append p q)
+kinds-append (Lexeme kind bytes ∷ p) q = ap (λ (ks : List Kind). kind ∷ ks) (kinds-append p q)
 
 -- the items of the tokens among pieces
 items_of : (at : ℕ) (pieces : List Piece) → map item_at (placed_items (placed at pieces)) ≡ map item_of (kinds pieces)
 items_of at [] = refl
 items_of at (Blank b ∷ pieces) = items_of (at + 1) pieces
 items_of at (Comment c ∷ pieces) = items_of (at + length (spelled (Comment c))) pieces
-items_of at (Lexeme kind ∷ pieces) = ap (λ (items : List Item). item_of kind ∷ items) (items_of (at + length (spelled_kind kind)) pieces)
+items_of at (Lexeme kind bytes ∷ pieces) = ap (λ (items : List Item). item_of kind ∷ items) (items_of (at + length bytes) pieces)
 
 -- all items of a text, by its pieces
 pub all_items : (pieces : List Piece) (taken : List Token) (ending : Ending) → taken ≡ placed 0 pieces
@@ -89,23 +89,23 @@ found (Blank b ∷ pieces) bytes rest at next place front item later (behind, fi
 found (Comment c ∷ pieces) bytes rest at next place front item later (behind, first, cut) is here e =
     behind_piece bytes behind (Comment c) at (at + length (spelled (Comment c))) front front item first refl (λ ps h. h)
     (found pieces behind rest (at + length (spelled (Comment c))) next place front item later cut is (omega arith) e)
-found (Lexeme kind ∷ pieces) bytes rest at next place [] item later (behind, first, cut) is here e =
+found (Lexeme kind token ∷ pieces) bytes rest at next place [] item later (behind, first, cut) is here e =
     let here_is : (item_of kind, at) ≡ item = cc in
     record {
       pieces = [];
       rest = bytes;
       next = Next.Token kind;
       cut = refl;
-      next_is = (behind, first);
+      next_is = (token, behind, first);
       same = refl;
       item_is = ap item_at (sym here_is);
       place = ap (λ (p : PlacedItem). p.1) (sym here_is) ∙ omega arith;
     }
-found (Lexeme kind ∷ pieces) bytes rest at next place (f ∷ front) item later (behind, first, cut) is here e =
-    let n : ℕ = at + length (spelled_kind kind) in
+found (Lexeme kind token ∷ pieces) bytes rest at next place (f ∷ front) item later (behind, first, cut) is here e =
+    let n : ℕ = at + length token in
     let first_is : (item_of kind, at) ≡ f = cc in
     let others : placed_items (placed n pieces) ++ (next_item next, place) ∷ [] ≡ front ++ item ∷ later = cc in
-    behind_piece bytes behind (Lexeme kind) at n (f ∷ front) front item first refl
+    behind_piece bytes behind (Lexeme kind token) at n (f ∷ front) front item first refl
     (λ ps h. ap (λ (x : Item). x ∷ map item_at front) (ap item_at (sym first_is)) ∙ ap (λ (xs : List Item). item_of kind ∷ xs) h)
     (found pieces behind rest n next place front item later cut is (omega arith) others)
 
@@ -121,19 +121,19 @@ found_in bytes taken (AtBad n) front item later (pieces, rest, cut, bad, are, pl
 
 -- ---- what stands next
 
-same_kind : (a b : Kind) → Lexeme a ≡ Lexeme b → a ≡ b
-same_kind a b e = cc
+same_kind : (a b : Kind) (x y : List ℕ) → Lexeme a x ≡ Lexeme b y → a ≡ b
+same_kind a b x y e = cc
 
 -- behind pieces stands one token, or the end, or a bad byte
 pub next_unique : (bytes : List ℕ) (a b : Next) → IsNext bytes a → IsNext bytes b → a ≡ b
-next_unique bytes (Next.Token a) (Next.Token b) (r, first) (s, second) =
-    ap Next.Token (same_kind a b (begins_unique bytes (Lexeme a) (Lexeme b) r s first second).0)
-next_unique bytes (Next.Token a) End (r, first) is = absurd (end_is_stuck (Lexeme a) r (subst (λ (xs : List ℕ). BeginsWith xs (Lexeme a) r) is first))
-next_unique bytes (Next.Token a) Bad (r, first) bad = absurd (bad.1 (Lexeme a) r first)
-next_unique bytes End (Next.Token b) is (s, second) = absurd (end_is_stuck (Lexeme b) s (subst (λ (xs : List ℕ). BeginsWith xs (Lexeme b) s) is second))
+next_unique bytes (Next.Token a) (Next.Token b) (x, r, first) (y, s, second) =
+    ap Next.Token (same_kind a b x y (begins_unique bytes (Lexeme a x) (Lexeme b y) r s first second).0)
+next_unique bytes (Next.Token a) End (x, r, first) is = absurd (end_is_stuck (Lexeme a x) r (subst (λ (xs : List ℕ). BeginsWith xs (Lexeme a x) r) is first))
+next_unique bytes (Next.Token a) Bad (x, r, first) bad = absurd (bad.1 (Lexeme a x) r first)
+next_unique bytes End (Next.Token b) is (y, s, second) = absurd (end_is_stuck (Lexeme b y) s (subst (λ (xs : List ℕ). BeginsWith xs (Lexeme b y) s) is second))
 next_unique bytes End End is also = refl
 next_unique bytes End Bad is bad = absurd (bad.0 is)
-next_unique bytes Bad (Next.Token b) bad (s, second) = absurd (bad.1 (Lexeme b) s second)
+next_unique bytes Bad (Next.Token b) bad (y, s, second) = absurd (bad.1 (Lexeme b y) s second)
 next_unique bytes Bad End bad is = absurd (bad.0 is)
 next_unique bytes Bad Bad bad also = refl
 

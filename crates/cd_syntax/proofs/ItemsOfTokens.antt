@@ -7,7 +7,7 @@ use Rattle.cd_meaning.specs.declared.expression.Axiom.TheVariants.{SubClass, Sam
 use Rattle.cd_meaning.specs.declared.expression.Expr.{Expr}
 use Rattle.cd_meaning.specs.declared.expression.Expr.TheVariants.{Meet, Join, Minus, SomeOf, AllOf}
 use Rattle.cd_lex.specs.declared.token.Kind.{Kind}
-use Rattle.cd_lex.specs.declared.token.Kind.TheVariants.{Word, Short, FullIri, Quoted, Lang}
+use Rattle.cd_lex.specs.declared.token.Kind.TheVariants.{Word, Short, FullIri}
 use Rattle.cd_syntax.specs.declared.item.Item.{Item}
 use Rattle.cd_syntax.specs.declared.known.Known.{Known}
 use Rattle.cd_syntax.specs.declared.words.AxiomForm.{AxiomForm}
@@ -16,7 +16,7 @@ use Rattle.cd_syntax.specs.declared.words.ExprForm.{ExprForm}
 use Rattle.cd_syntax.specs.declared.words.ExprForm.TheVariants.{ObjectIntersectionOf, ObjectUnionOf, ObjectComplementOf, ObjectSomeValuesFrom, ObjectAllValuesFrom}
 use Rattle.cd_syntax.specs.declared.words.Form.{Form}
 use Rattle.cd_syntax.specs.declared.words.Key.{Key}
-use Rattle.cd_syntax.specs.Grammar.{Wanted, Exact, AnyWord, AnyString, AnyTag, AnyIri, Subject, PrefixIri, ClassOf, RoleOf, ClosingOf, Text, OntologyIri, Notes, Axioms, DeclarationIn, AssertionIn, AnnotationAxiomIn, AxiomIn, NoteIn, Value, ExprOf, Means, Stands, other_entities, annotation_axioms, axiom_form, IsForm}
+use Rattle.cd_syntax.specs.Grammar.{Wanted, Exact, AnyWord, AnyIri, Subject, PrefixIri, ClassOf, RoleOf, ClosingOf, Text, OntologyIri, Notes, Axioms, DeclarationIn, AssertionIn, AnnotationAxiomIn, AxiomIn, NoteIn, Value, ExprOf, Means, Stands, other_entities, annotation_axioms, axiom_form, IsForm}
 use Rattle.cd_syntax.proofs.ItemGrammar.{Wanted as ItemWanted, Means as ItemMeans, Stands as ItemStands, operands}
 use Rattle.cd_syntax.specs.Items.{item_of}
 use Rattle.cd_syntax.specs.Operands.{axiom_of, expression_of}
@@ -45,8 +45,6 @@ any_key (w ∷ words) = key_of w
 abbrev pub item_wanted : Wanted → ItemWanted
 item_wanted (Exact kind) = ItemWanted.Exact (item_of kind)
 item_wanted (AnyWord words) = ItemWanted.Exact (Item.Word (any_key words))
-item_wanted AnyString = ItemWanted.Exact Item.Quoted
-item_wanted AnyTag = ItemWanted.Exact Item.Lang
 item_wanted AnyIri = ItemWanted.AnyIri
 item_wanted Subject = ItemWanted.Subject
 item_wanted (PrefixIri p) = ItemWanted.PrefixIri p
@@ -72,8 +70,6 @@ HasOwnKey w = (v : List ℕ) → key_of v ≡ key_of w → v ≡ w
 -- it may be wanted with more behind it
 abbrev pub Fit : Wanted → Type 0
 Fit (Exact (Word w)) = HasOwnKey w
-Fit (Exact (Quoted s)) = ⊥
-Fit (Exact (Lang t)) = ⊥
 Fit (AnyWord words) = (words ≡ other_entities) ⊎ (words ≡ annotation_axioms)
 Fit Text = ⊥
 Fit OntologyIri = ⊥
@@ -144,8 +140,6 @@ pub stands_to : (known : Known) (w : Wanted) (kind : Kind) (after : Known) → F
 stands_to known (Exact k) kind after fit (is, same) = (ap item_of is, same)
 stands_to known (AnyWord words) kind after fit (v, is, contains, same) =
     (ap item_of is ∙ ap Item.Word (any_key-is words v fit (one_of words v contains)), same)
-stands_to known AnyString kind after fit (s, is, same) = (ap item_of is, same)
-stands_to known AnyTag kind after fit (t, is, same) = (ap item_of is, same)
 stands_to known AnyIri kind after fit ((iri, m), same) = ((iri, means_to known kind iri m), same)
 stands_to known Subject kind after fit (inl (iri, m), same) = (inl (iri, means_to known kind iri m), same)
 stands_to known Subject kind after fit (inr (label, is, named), same) = (inr (label, ap item_of is, named), same)

@@ -8,7 +8,7 @@ use Rattle.cd_syntax.specs.declared.item.Item.{Item}
 use Rattle.cd_syntax.specs.declared.words.AxiomForm.{AxiomForm}
 use Rattle.cd_syntax.specs.declared.words.Form.{Form}
 use Rattle.cd_syntax.specs.declared.words.Key.{Key}
-use Rattle.cd_syntax.specs.Grammar.{Wanted, Exact, AnyWord, AnyString, AnyTag, AnyIri, Subject, PrefixIri, ClassOf, ClosingOf, Text, OntologyIri, Notes, Axioms, DeclarationIn, AssertionIn, AnnotationAxiomIn, AxiomIn, NoteIn, Value, ExprOf, opened, other_entities, annotation_axioms, IsNoted, Line}
+use Rattle.cd_syntax.specs.Grammar.{Wanted, Exact, AnyWord, AnyIri, Subject, PrefixIri, ClassOf, ClosingOf, Text, OntologyIri, Notes, Axioms, DeclarationIn, AssertionIn, AnnotationAxiomIn, AxiomIn, NoteIn, Value, ExprOf, opened, other_entities, annotation_axioms, IsNoted, Line}
 use Rattle.cd_syntax.proofs.ItemGrammar.{Wanted as ItemWanted, operands, opened as items_opened, IsNoted as IsItemNoted, Line as ItemLine}
 use Rattle.cd_syntax.specs.Words.{key_of}
 use Rattle.cd_syntax.proofs.ItemsOfTokens.{item_wanted, Fit, IsLast, AllFit, Agree, agree-append, agree-last, annotation_own, prefix_own, ontology_own, declaration_own, class_own, assertion_own, form_of, axiom_to, axiom_back, expr_to, expr_back}
@@ -124,9 +124,9 @@ line_back most (AxiomIn a) items fit (inr (heads, exprs, makes, is)) =
 line_back most (NoteIn n) items fit (inl l) = noted_line most n (NoteIn n) items (λ parts k. inl k) l
 line_back most (NoteIn n) items fit (inr is) = (AnyIri ∷ Value ∷ Exact Kind.Closing ∷ [], inr refl, is)
 line_back most Value items fit (inl is) = (Subject ∷ [], inl refl, is)
-line_back most Value items fit (inr (inl is)) = (AnyString ∷ [], inr (inl refl), is)
-line_back most Value items fit (inr (inr (inl is))) = (AnyString ∷ AnyTag ∷ [], inr (inr (inl refl)), is)
-line_back most Value items fit (inr (inr (inr is))) = (AnyString ∷ Exact Kind.Carets ∷ AnyIri ∷ [], inr (inr (inr refl)), is)
+line_back most Value items fit (inr (inl is)) = (Exact Kind.Quoted ∷ [], inr (inl refl), is)
+line_back most Value items fit (inr (inr (inl is))) = (Exact Kind.Quoted ∷ Exact Kind.Lang ∷ [], inr (inr (inl refl)), is)
+line_back most Value items fit (inr (inr (inr is))) = (Exact Kind.Quoted ∷ Exact Kind.Carets ∷ AnyIri ∷ [], inr (inr (inr refl)), is)
 line_back most (ExprOf n e) items fit (inl (c, named, is)) = (ClassOf c ∷ [], inl (c, named, refl), is)
 line_back most (ExprOf zero e) items fit (inr built) = absurd built
 line_back most (ExprOf (suc n) e) items fit (inr (form, roles, exprs, makes, is)) =

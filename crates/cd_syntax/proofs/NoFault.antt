@@ -18,18 +18,19 @@ front_of front more (rest, known, leads) =
     (more ++ rest, known, subst (λ (all : List Kind). Leads nesting begun (Text ∷ []) all known []) (append_assoc front more rest) leads)
 
 -- a token behind the pieces goes on where pieces with that token do
-token_goes : (p : List Piece) (kind : Kind) (more : List Piece) → IsFront nesting (kinds (p ++ Lexeme kind ∷ more)) → GoesOn nesting (kinds p) (Token kind)
-token_goes p kind more is =
+token_goes : (p : List Piece) (kind : Kind) (spelled : List ℕ) (more : List Piece) → IsFront nesting (kinds (p ++ Lexeme kind spelled ∷ more))
+    → GoesOn nesting (kinds p) (Token kind)
+token_goes p kind spelled more is =
     front_of (kinds p ++ kind ∷ []) (kinds more)
-    (subst (IsFront nesting) (kinds-append p (Lexeme kind ∷ more) ∙ sym (append_assoc (kinds p) (kind ∷ []) (kinds more))) is)
+    (subst (IsFront nesting) (kinds-append p (Lexeme kind spelled ∷ more) ∙ sym (append_assoc (kinds p) (kind ∷ []) (kinds more))) is)
 
 -- no front has pieces behind a fault
 pub not_past : (p later : List Piece) (rest s : List ℕ) (next : Next) → IsNext rest next → (GoesOn nesting (kinds p) next → ⊥) → IsCut rest later s
     → IsFront nesting (kinds (p ++ later)) → later ≡ []
 not_past p [] rest s next is none cut front = refl
-not_past p (a ∷ more) rest s (Token kind) (behind, token) none (behind', first, cut) front =
-    let same = (begins_unique rest a (Lexeme kind) behind' behind first token).0 in
-    absurd (none (token_goes p kind more (subst (λ (x : Piece). IsFront nesting (kinds (p ++ x ∷ more))) same front)))
+not_past p (a ∷ more) rest s (Token kind) (spelled, behind, token) none (behind', first, cut) front =
+    let same = (begins_unique rest a (Lexeme kind spelled) behind' behind first token).0 in
+    absurd (none (token_goes p kind spelled more (subst (λ (x : Piece). IsFront nesting (kinds (p ++ x ∷ more))) same front)))
 not_past p (a ∷ more) rest s End is none (behind', first, cut) front =
     absurd (end_is_stuck a behind' (subst (λ (xs : List ℕ). BeginsWith xs a behind') is first))
 not_past p (a ∷ more) rest s Bad bad none (behind', first, cut) front = absurd (bad.1 a behind' first)
@@ -38,8 +39,8 @@ not_past p (a ∷ more) rest s Bad bad none (behind', first, cut) front = absurd
 
 -- at the end of a document it ends
 no_next : (front : List Kind) (known : Known) (rest : List ℕ) (next : Next) → rest ≡ [] → IsNext rest next → IsWhole front known → GoesOn nesting front next
-no_next front known rest (Token kind) none (behind, token) whole =
-    absurd (end_is_stuck (Lexeme kind) behind (subst (λ (xs : List ℕ). BeginsWith xs (Lexeme kind) behind) none token))
+no_next front known rest (Token kind) none (spelled, behind, token) whole =
+    absurd (end_is_stuck (Lexeme kind spelled) behind (subst (λ (xs : List ℕ). BeginsWith xs (Lexeme kind spelled) behind) none token))
 no_next front known rest End none is whole = (known, whole)
 no_next front known rest Bad none bad whole = bad.0 none
 

@@ -6,7 +6,7 @@ use Rattle.cd_lex.specs.declared.token.Kind.TheVariants.{Opening, Closing, Equal
 use Rattle.cd_syntax.specs.declared.item.Item.{Item}
 use Rattle.cd_syntax.specs.declared.known.Known.{Known}
 use Rattle.cd_syntax.specs.declared.words.Key.{Key}
-use Rattle.cd_syntax.specs.Grammar.{Wanted, Exact, AnyWord, AnyString, AnyTag, AnyIri, Subject, PrefixIri, ClassOf, RoleOf, ClosingOf, Text, OntologyIri, Notes, Axioms, Means, Stands, Leads}
+use Rattle.cd_syntax.specs.Grammar.{Wanted, Exact, AnyWord, AnyIri, Subject, PrefixIri, ClassOf, RoleOf, ClosingOf, Text, OntologyIri, Notes, Axioms, Means, Stands, Leads}
 use Rattle.cd_syntax.proofs.ItemGrammar.{Wanted as ItemWanted, Means as ItemMeans, Stands as ItemStands, Line as ItemLine, Leads as ItemLeads}
 use Rattle.cd_syntax.specs.Items.{item_of}
 use Rattle.cd_syntax.specs.Words.{key_of}
@@ -23,13 +23,13 @@ means_back known kind iri m = absurd m
 
 -- the token of an item that stands for itself
 pub exact_kind : (kind k : Kind) → Fit (Exact k) → item_of kind ≡ item_of k → kind ≡ k
-exact_kind kind (Quoted s) fit is = absurd fit
-exact_kind kind (Lang t) fit is = absurd fit
 exact_kind (Word v) (Word w) fit is = let same : key_of v ≡ key_of w = cc in ap Word (fit v same)
 exact_kind Opening Opening fit is = refl
 exact_kind Closing Closing fit is = refl
 exact_kind Equals Equals fit is = refl
 exact_kind Carets Carets fit is = refl
+exact_kind Quoted Quoted fit is = refl
+exact_kind Lang Lang fit is = refl
 exact_kind (Short p l) (Short q m) fit is = cc
 exact_kind (Node l) (Node m) fit is = cc
 exact_kind (FullIri i) (FullIri j) fit is = cc
@@ -39,14 +39,6 @@ exact_kind kind k fit is = absurd cc
 pub word_kind : (kind : Kind) (key : Key) → item_of kind ≡ Item.Word key → (v : List ℕ) × (kind ≡ Word v) × (key_of v ≡ key)
 word_kind (Word v) key is = (v, refl, cc)
 word_kind kind key is = absurd cc
-
-quoted_kind : (kind : Kind) → item_of kind ≡ Item.Quoted → (s : List ℕ) × (kind ≡ Quoted s)
-quoted_kind (Quoted s) is = (s, refl)
-quoted_kind kind is = absurd cc
-
-lang_kind : (kind : Kind) → item_of kind ≡ Item.Lang → (t : List ℕ) × (kind ≡ Lang t)
-lang_kind (Lang t) is = (t, refl)
-lang_kind kind is = absurd cc
 
 -- a token whose item may stand for any of the words
 words_back : (known after : Known) (words : List (List ℕ)) (kind : Kind) → Fit (AnyWord words) → item_of kind ≡ Item.Word (any_key words) → after ≡ known
@@ -62,8 +54,6 @@ words_back known after words kind (inr are) is same =
 pub stands_back : (known : Known) (w : Wanted) (kind : Kind) (after : Known) → Fit w → ItemStands known (item_wanted w) (item_of kind) after → Stands known w kind after
 stands_back known (Exact k) kind after fit (is, same) = (exact_kind kind k fit is, same)
 stands_back known (AnyWord words) kind after fit (is, same) = words_back known after words kind fit is same
-stands_back known AnyString kind after fit (is, same) = let (s, e) = quoted_kind kind is in (s, e, same)
-stands_back known AnyTag kind after fit (is, same) = let (t, e) = lang_kind kind is in (t, e, same)
 stands_back known AnyIri kind after fit ((iri, m), same) = ((iri, means_back known kind iri m), same)
 stands_back known Subject kind after fit (inl (iri, m), same) = (inl (iri, means_back known kind iri m), same)
 stands_back known Subject kind after fit (inr (label, is, named), same) = (inr (label, exact_kind kind (Node label) tt is, named), same)
@@ -89,8 +79,6 @@ stood_token known (AnyWord words) item after (inl are) (is, same) =
     (Word (codes "Datatype"), is ∙ ap (λ (ws : List (List ℕ)). Item.Word (any_key ws)) are)
 stood_token known (AnyWord words) item after (inr are) (is, same) =
     (Word (codes "SubAnnotationPropertyOf"), is ∙ ap (λ (ws : List (List ℕ)). Item.Word (any_key ws)) are)
-stood_token known AnyString item after fit (is, same) = (Quoted [], is)
-stood_token known AnyTag item after fit (is, same) = (Lang [], is)
 stood_token known AnyIri item after fit ((iri, m), same) = means_token known item iri m
 stood_token known Subject item after fit (inl (iri, m), same) = means_token known item iri m
 stood_token known Subject item after fit (inr (label, is, named), same) = (Node label, is)

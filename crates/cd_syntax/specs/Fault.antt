@@ -18,7 +18,7 @@ pub data Next : Type 0 where
 
 -- the bytes begin so
 abbrev pub IsNext : List ℕ → Next → Type 0
-IsNext bytes (Token kind) = (rest : List ℕ) × BeginsWith bytes (Lexeme kind) rest
+IsNext bytes (Token kind) = (spelled rest : List ℕ) × BeginsWith bytes (Lexeme kind spelled) rest
 IsNext bytes End = bytes ≡ []
 IsNext bytes Bad = IsBad bytes
 

@@ -40,8 +40,6 @@ pub data Wanted : Type 0 where
   Exact : Kind → Wanted
   -- one of these words
   AnyWord : List (List ℕ) → Wanted
-  AnyString : Wanted
-  AnyTag : Wanted
   AnyIri : Wanted
   -- an IRI or an anonymous individual
   Subject : Wanted
@@ -91,8 +89,6 @@ bottom_role = codes "http://www.w3.org/2002/07/owl#bottomObjectProperty"
 abbrev pub Stands : Known → Wanted → Kind → Known → Type 0
 Stands known (Exact k) kind after = (kind ≡ k) × (after ≡ known)
 Stands known (AnyWord words) kind after = (w : List ℕ) × (kind ≡ Word w) × Contains words w × (after ≡ known)
-Stands known AnyString kind after = (s : List ℕ) × (kind ≡ Quoted s) × (after ≡ known)
-Stands known AnyTag kind after = (t : List ℕ) × (kind ≡ Lang t) × (after ≡ known)
 Stands known AnyIri kind after = IsAnyIri known kind × (after ≡ known)
 Stands known Subject kind after = (IsAnyIri known kind ⊎ IsNode kind) × (after ≡ known)
 Stands known (PrefixIri p) kind after =
@@ -171,7 +167,7 @@ Line most (AxiomIn a) parts =
     IsNoted most (AxiomIn a) parts
     ⊎ ((word : List ℕ) × (inner : List Wanted) × (axiom_form most a ≡ Some (word, inner)) × (parts ≡ inner ++ ClosingOf a ∷ []))
 Line most (NoteIn n) parts = IsNoted n (NoteIn n) parts ⊎ (parts ≡ AnyIri ∷ Value ∷ Exact Closing ∷ [])
-Line most Value parts = (parts ≡ Subject ∷ []) ⊎ (parts ≡ AnyString ∷ []) ⊎ (parts ≡ AnyString ∷ AnyTag ∷ []) ⊎ (parts ≡ AnyString ∷ Exact Carets ∷ AnyIri ∷ [])
+Line most Value parts = (parts ≡ Subject ∷ []) ⊎ (parts ≡ Exact Quoted ∷ []) ⊎ (parts ≡ Exact Quoted ∷ Exact Lang ∷ []) ⊎ (parts ≡ Exact Quoted ∷ Exact Carets ∷ AnyIri ∷ [])
 Line most (ExprOf n e) parts = ((c : ℕ) × (e ≡ Name c) × (parts ≡ ClassOf c ∷ [])) ⊎ IsBuilt n e parts
 Line most other parts = ⊥
 

@@ -15,8 +15,8 @@ item_of (Kind.Word w) = Item.Word (key_of w)
 item_of (Kind.Short p l) = Item.Short p l
 item_of (Kind.Node l) = Item.Node l
 item_of (Kind.FullIri i) = Item.FullIri i
-item_of (Kind.Quoted s) = Item.Quoted
-item_of (Kind.Lang t) = Item.Lang
+item_of Kind.Quoted = Item.Quoted
+item_of Kind.Lang = Item.Lang
 
 -- an item, and how many bytes of the text stand before it
 abbrev pub PlacedItem : Type 0

@@ -40,7 +40,7 @@ pub fn item_of(kind: Kind) -> Item
         Kind::Short(prefix, local) => Item::Short(prefix, local),
         Kind::Node(label) => Item::Node(label),
         Kind::FullIri(iri) => Item::FullIri(iri),
-        Kind::Quoted(_) => Item::Quoted,
-        Kind::Lang(_) => Item::Lang,
+        Kind::Quoted => Item::Quoted,
+        Kind::Lang => Item::Lang,
     }
 }

@@ -51,7 +51,7 @@ module _ (given : Document) (below : ℕ → ℕ → Bool) (names : AreNames giv
         text_pieces given.classes ss,
         cut_text given.classes below (lines_iris given.classes below names s),
         subst (λ (kinds : List Kind). Leads nesting begun (Text ∷ []) (Word (codes "Ontology") ∷ Opening ∷ kinds) said [])
-            (sym (kinds_of_pieces given.classes ss (Lexeme Closing ∷ Blank 10 ∷ [])))
+            (sym (kinds_of_pieces given.classes ss (Lexeme Closing (41 ∷ []) ∷ Blank 10 ∷ [])))
             (leads_text given.classes nesting ss),
       )
 

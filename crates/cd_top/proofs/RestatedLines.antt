@@ -88,11 +88,11 @@ module _ (names : List (List ℕ)) where
 module _ (names : List (List ℕ)) where
   abbrev pub operand_pieces : List ℕ → List Piece → List Piece
   operand_pieces [] after = after
-  operand_pieces (c ∷ []) after = Lexeme (FullIri (name_of names c)) ∷ after
-  operand_pieces (c ∷ d ∷ more) after = Lexeme (FullIri (name_of names c)) ∷ Blank 32 ∷ operand_pieces (d ∷ more) after
+  operand_pieces (c ∷ []) after = Lexeme (FullIri (name_of names c)) (full_iri names c) ∷ after
+  operand_pieces (c ∷ d ∷ more) after = Lexeme (FullIri (name_of names c)) (full_iri names c) ∷ Blank 32 ∷ operand_pieces (d ∷ more) after
 
   abbrev pub statement_pieces : Statement → List Piece → List Piece
-  statement_pieces s after = Lexeme (Word (word_of s)) ∷ Lexeme Opening ∷ operand_pieces (operands s) (Lexeme Closing ∷ Blank 10 ∷ after)
+  statement_pieces s after = Lexeme (Word (word_of s)) (word_of s) ∷ Lexeme Opening (40 ∷ []) ∷ operand_pieces (operands s) (Lexeme Closing (41 ∷ []) ∷ Blank 10 ∷ after)
 
   abbrev pub pieces_of : List Statement → List Piece → List Piece
   pieces_of [] after = after
@@ -105,11 +105,11 @@ module _ (names : List (List ℕ)) where
   cut_operands : (cs : List ℕ) → HaveIris cs → (behind : List ℕ) (after : List Piece) → IsCut behind after []
       → IsCut (join_with_byte 32 (map (full_iri names) cs) ++ behind) (operand_pieces cs after) []
   cut_operands [] iris behind after cut = cut
-  cut_operands (c ∷ []) iris behind after cut = (behind, record { split = refl; is_piece = iris.0; is_longest = tt }, cut)
+  cut_operands (c ∷ []) iris behind after cut = (behind, record { split = refl; is_piece = (iris.0, refl); is_longest = tt }, cut)
   cut_operands (c ∷ d ∷ more) iris behind after cut =
       let rest : List ℕ = join_with_byte 32 (map (full_iri names) (d ∷ more)) in (
         32 ∷ (rest ++ behind),
-        record { split = append_assoc (full_iri names c) (32 ∷ rest) behind; is_piece = iris.0; is_longest = tt },
+        record { split = append_assoc (full_iri names c) (32 ∷ rest) behind; is_piece = (iris.0, refl); is_longest = tt },
         (rest ++ behind, record { split = refl; is_piece = refl; is_longest = tt }, cut_operands (d ∷ more) iris.1 behind after cut),
       )
 
@@ -117,18 +117,18 @@ module _ (names : List (List ℕ)) where
   regrouped word joined behind = simp append_assoc
 
   cut_line : (word : List ℕ) → (word ≢ []) → list_all is_word_byte word ≡ true → (cs : List ℕ) → HaveIris cs → (behind : List ℕ) (after : List Piece) → IsCut behind after []
-      → IsCut (ended (line names word cs) ++ behind) (Lexeme (Word word) ∷ Lexeme Opening ∷ operand_pieces cs (Lexeme Closing ∷ Blank 10 ∷ after)) []
+      → IsCut (ended (line names word cs) ++ behind) (Lexeme (Word word) word ∷ Lexeme Opening (40 ∷ []) ∷ operand_pieces cs (Lexeme Closing (41 ∷ []) ∷ Blank 10 ∷ after)) []
   cut_line word some bytes cs iris behind after cut =
       let joined : List ℕ = join_with_byte 32 (map (full_iri names) cs) in
       let rest : List ℕ = joined ++ (41 ∷ 10 ∷ behind) in (
         40 ∷ rest,
-        record { split = regrouped word joined behind; is_piece = (some, bytes); is_longest = refl },
+        record { split = regrouped word joined behind; is_piece = ((some, bytes), refl); is_longest = refl },
         (
           rest,
-          record { split = refl; is_piece = tt; is_longest = tt },
-          cut_operands cs iris (41 ∷ 10 ∷ behind) (Lexeme Closing ∷ Blank 10 ∷ after) (
+          record { split = refl; is_piece = (tt, refl); is_longest = tt },
+          cut_operands cs iris (41 ∷ 10 ∷ behind) (Lexeme Closing (41 ∷ []) ∷ Blank 10 ∷ after) (
             10 ∷ behind,
-            record { split = refl; is_piece = tt; is_longest = tt },
+            record { split = refl; is_piece = (tt, refl); is_longest = tt },
             (behind, record { split = refl; is_piece = refl; is_longest = tt }, cut),
           ),
         ),
@@ -167,12 +167,12 @@ module _ (names : List (List ℕ)) where
   pub kinds_of_pieces : (ss : List Statement) (after : List Piece) → kinds (pieces_of ss after) ≡ kinds_of ss (kinds after)
   kinds_of_pieces [] after = refl
   kinds_of_pieces (s ∷ ss) after =
-      ap (λ (ks : List Kind). Word (word_of s) ∷ Opening ∷ ks) (kinds_of_operands (operands s) (Lexeme Closing ∷ Blank 10 ∷ pieces_of ss after))
+      ap (λ (ks : List Kind). Word (word_of s) ∷ Opening ∷ ks) (kinds_of_operands (operands s) (Lexeme Closing (41 ∷ []) ∷ Blank 10 ∷ pieces_of ss after))
       ∙ ap (λ (ks : List Kind). statement_kinds s ks) (kinds_of_pieces ss after)
 
   -- the pieces of a whole text
   abbrev pub text_pieces : List Statement → List Piece
-  text_pieces ss = Lexeme (Word (codes "Ontology")) ∷ Lexeme Opening ∷ Blank 10 ∷ pieces_of ss (Lexeme Closing ∷ Blank 10 ∷ [])
+  text_pieces ss = Lexeme (Word (codes "Ontology")) (codes "Ontology") ∷ Lexeme Opening (40 ∷ []) ∷ Blank 10 ∷ pieces_of ss (Lexeme Closing (41 ∷ []) ∷ Blank 10 ∷ [])
 
   pub cut_text : (below : ℕ → ℕ → Bool) → AllByRecursion (λ (s : Statement). HaveIris (operands s)) (statements names below)
       → IsCut (text names below) (text_pieces (statements names below)) []
@@ -181,16 +181,16 @@ module _ (names : List (List ℕ)) where
       let rest : List ℕ = flat_map (spelled_statement names) ss ++ (41 ∷ 10 ∷ []) in
       subst (λ (bytes : List ℕ). IsCut bytes (text_pieces ss) []) (sym (text_spelled names below)) (
         40 ∷ 10 ∷ rest,
-        record { split = refl; is_piece = ((λ e. absurd cc), refl); is_longest = refl },
+        record { split = refl; is_piece = (((λ e. absurd cc), refl), refl); is_longest = refl },
         (
           10 ∷ rest,
-          record { split = refl; is_piece = tt; is_longest = tt },
+          record { split = refl; is_piece = (tt, refl); is_longest = tt },
           (
             rest,
             record { split = refl; is_piece = refl; is_longest = tt },
-            cut_statements ss iris (41 ∷ 10 ∷ []) (Lexeme Closing ∷ Blank 10 ∷ []) (
+            cut_statements ss iris (41 ∷ 10 ∷ []) (Lexeme Closing (41 ∷ []) ∷ Blank 10 ∷ []) (
               10 ∷ [],
-              record { split = refl; is_piece = tt; is_longest = tt },
+              record { split = refl; is_piece = (tt, refl); is_longest = tt },
               ([], record { split = refl; is_piece = refl; is_longest = tt }, refl),
             ),
           ),
