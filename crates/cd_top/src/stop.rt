@@ -5,8 +5,8 @@ ghost use Rattle.cd_top.specs.Stops.{status_of};
 use crate::status::Status;
 use cd_base::{LimitKind, Memory};
 use cd_grammar::ReadRefusal;
-use cd_syntax::Refusal;
 use cd_saturation::Halt;
+use cd_syntax::Refusal;
 use cd_words::AskFault;
 use thiserror::Error;
 
