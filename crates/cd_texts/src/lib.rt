@@ -1,11 +1,16 @@
-//! The tests of `cd_grammar` over texts in memory: what small texts say, or what is wrong with them and where (`reading_tests`), and how
-//! much of a source is taken (`limits_tests`).
+//! The tests of the reader, and of what is made of a document, over texts in memory: what small texts say, or what is wrong with them and
+//! where (`reading_tests`); how much of a source is taken (`limits_tests`); the normal axioms of a document (`normal_tests`); and its groups
+//! (`groups_tests`).
 //!
-//! They make public calls alone. They stand here and not in `cd_grammar`, which would be proved once more with its tests. No crate stands
-//! on this one.
+//! They make public calls alone. They stand here and not in the crates that they try, each of which would be proved once more with its
+//! tests. No crate stands on this one.
 #![tactic(auto)]
 
 #[cfg(test)]
+mod groups_tests;
+#[cfg(test)]
 mod limits_tests;
+#[cfg(test)]
+mod normal_tests;
 #[cfg(test)]
 mod reading_tests;
