@@ -2,7 +2,7 @@
 use Rattle.std.proofs.Common.{◌≡◌, ℕ, zero, suc, ◌+◌, ◌<◌, ◌⊎◌, inl, inr, true, false, List, [], ◌∷◌, ◌++◌, length, take, refl, ap, sym, ◌∙◌, subst, arith, add-one, append_assoc}
 use Rattle.std.proofs.lemmas.Bool.{cases_Bool}
 use Rattle.std.proofs.lemmas.List.{append-nil}
-use Rattle.cd_base.specs.Lists.{Member, IsApart}
+use Rattle.cd_base.specs.Lists.{OneOf, HasNoRepeats}
 use Rattle.cd_actor.specs.Sends.{sent}
 use Rattle.cd_actor.specs.Laws.{OwedInFamily}
 use Rattle.cd_actor.specs.Meaning.{Meaning}
@@ -17,13 +17,13 @@ use Rattle.cd_actor.proofs.Sent.{sent_more, follows_more}
 pub record IsJoining {A M : Type 0} (g : Meaning A M) (cells : List A) (all old left new : List (ℕ × M)) : Type 0 where
   pub follows : new ≡ old ++ sent old new
   pub lawful : AreAllLawful g cells left
-  pub left_apart : IsApart left
-  pub apart : IsApart (sent old new)
-  pub only : (x : ℕ × M) → Member x (sent old new) → Member x all × (Had g cells x → ⊥)
+  pub left_apart : HasNoRepeats left
+  pub apart : HasNoRepeats (sent old new)
+  pub only : (x : ℕ × M) → OneOf x (sent old new) → OneOf x all × (Had g cells x → ⊥)
   -- what is left was not gone through
-  pub fresh : (x : ℕ × M) → Member x (sent old new) → Member x left → ⊥
-  pub rest : (x : ℕ × M) → Member x left → Member x all
-  pub every : (x : ℕ × M) → Member x all → Member x left ⊎ HadOrPends g cells (sent old new) x
+  pub fresh : (x : ℕ × M) → OneOf x (sent old new) → OneOf x left → ⊥
+  pub rest : (x : ℕ × M) → OneOf x left → OneOf x all
+  pub every : (x : ℕ × M) → OneOf x all → OneOf x left ⊎ HadOrPends g cells (sent old new) x
 
 module _ {A M : Type 0} (g : Meaning A M) (cells : List A) (all old left new : List (ℕ × M)) (p : ℕ) (m : M) (less : List (ℕ × M)) (a : A) (j : IsJoining g cells all old left new) (e : left ≡ (p, m) ∷ less) (at : At cells p a) where
   now : IsJoining g cells all old ((p, m) ∷ less) new
@@ -52,23 +52,23 @@ module _ {A M : Type 0} (g : Meaning A M) (cells : List A) (all old left new : L
   pub join_keep : g.has a m ≡ false → (after : List (ℕ × M)) → after ≡ new ++ (p, m) ∷ [] → IsJoining g cells all old less after
   join_keep h after f =
       let s : sent old after ≡ sent old new ++ (p, m) ∷ [] = sent_more old new after ((p, m) ∷ []) now.follows f in
-      let parts = λ (x : ℕ × M) (i : Member x (sent old after)). member_cases x (sent old new) ((p, m) ∷ []) (subst (λ q. Member x q) s i) in record {
+      let parts = λ (x : ℕ × M) (i : OneOf x (sent old after)). member_cases x (sent old new) ((p, m) ∷ []) (subst (λ q. OneOf x q) s i) in record {
         follows = follows_more old new after ((p, m) ∷ []) now.follows f;
         lawful = λ x i. now.lawful x (inr i);
         left_apart = now.left_apart.1;
-        apart = subst IsApart (sym s) (apart_more (sent old new) (p, m) now.apart (λ i. now.fresh (p, m) i (inl refl)));
+        apart = subst HasNoRepeats (sym s) (apart_more (sent old new) (p, m) now.apart (λ i. now.fresh (p, m) i (inl refl)));
         only = λ x i. elim (parts x i) [
           | inl k ↦ now.only x k
-          | inr k ↦ elim k [ inl q ↦ (subst (λ y. Member y all) (sym q) (now.rest (p, m) (inl refl)), λ w. not_had h (subst (λ y. Had g cells y) q w)) | inr z ↦ absurd z ]
+          | inr k ↦ elim k [ inl q ↦ (subst (λ y. OneOf y all) (sym q) (now.rest (p, m) (inl refl)), λ w. not_had h (subst (λ y. Had g cells y) q w)) | inr z ↦ absurd z ]
         ];
         fresh = λ x i k. elim (parts x i) [
           | inl w ↦ now.fresh x w (inr k)
-          | inr w ↦ elim w [ inl q ↦ now.left_apart.0 (subst (λ y. Member y less) q k) | inr z ↦ absurd z ]
+          | inr w ↦ elim w [ inl q ↦ now.left_apart.0 (subst (λ y. OneOf y less) q k) | inr z ↦ absurd z ]
         ];
         rest = λ x i. now.rest x (inr i);
         every = λ x i. elim (now.every x i) [
-          | inl k ↦ elim k [ inl q ↦ inr (inr (subst (λ l. Member x l) (sym s) (member_right x (sent old new) ((p, m) ∷ []) (inl q)))) | inr n ↦ inl n ]
-          | inr k ↦ elim k [ inl d ↦ inr (inl d) | inr d ↦ inr (inr (subst (λ l. Member x l) (sym s) (member_left x (sent old new) ((p, m) ∷ []) d))) ]
+          | inl k ↦ elim k [ inl q ↦ inr (inr (subst (λ l. OneOf x l) (sym s) (member_right x (sent old new) ((p, m) ∷ []) (inl q)))) | inr n ↦ inl n ]
+          | inr k ↦ elim k [ inl d ↦ inr (inl d) | inr d ↦ inr (inr (subst (λ l. OneOf x l) (sym s) (member_left x (sent old new) ((p, m) ∷ []) d))) ]
         ];
       }
 
@@ -76,9 +76,9 @@ module _ {A M : Type 0} (g : Meaning A M) (cells : List A) (all old left new : L
 pub join_end : {A M : Type 0} (g : Meaning A M) (cells : List A) (all old left new : List (ℕ × M)) → IsJoining g cells all old left new → left ≡ [] → IsNotHadOf g cells all (sent old new)
 join_end {M = M} g cells all old left new j e = record { apart = j.apart; are = λ x. (j.only x, every x) }
   where
-    every : (x : ℕ × M) → Member x all × (Had g cells x → ⊥) → Member x (sent old new)
+    every : (x : ℕ × M) → OneOf x all × (Had g cells x → ⊥) → OneOf x (sent old new)
     every x k = elim (j.every x k.0) [
-      | inl i ↦ absurd (subst (λ l. Member x l) e i)
+      | inl i ↦ absurd (subst (λ l. OneOf x l) e i)
       | inr i ↦ elim i [ inl h ↦ absurd (k.1 h) | inr h ↦ h ]
     ]
 
@@ -90,7 +90,7 @@ owed_lawful g cells i a x k law at o =
     (omega arith, λ c j. (law a c (k.family i x.0 a c at j) w x.0 x.1 o).1)
 
 -- what one cell lists, without what is had
-pub owed_of : {A M : Type 0} (g : Meaning A M) (cells : List A) (a : A) (owed part : List (ℕ × M)) → ((p : ℕ) (m : M) → Member (p, m) owed → g.owes a p m) → ((p : ℕ) (m : M) → g.owes a p m → Member (p, m) owed) → IsNotHadOf g cells owed part → IsOwedOf g cells a part
+pub owed_of : {A M : Type 0} (g : Meaning A M) (cells : List A) (a : A) (owed part : List (ℕ × M)) → ((p : ℕ) (m : M) → OneOf (p, m) owed → g.owes a p m) → ((p : ℕ) (m : M) → g.owes a p m → OneOf (p, m) owed) → IsNotHadOf g cells owed part → IsOwedOf g cells a part
 owed_of g cells a owed part only every n = record {
   apart = n.apart;
   are = λ x. (λ i. let k = (n.are x).0 i in (only x.0 x.1 k.0, k.1), λ k. (n.are x).1 (every x.0 x.1 k.0, k.1));
@@ -110,19 +110,19 @@ in_turn_next g cells i a old now new at f e h o =
     subst (λ r. IsOwedInTurn g cells r (sent old new)) t (subst (λ q. IsOwedInTurn g cells (take i cells ++ a ∷ []) q) s (in_turn_more g cells (take i cells) a (sent old now) (sent now new) h o))
 
 -- each message is owed by one of the cells
-in_turn_only : {A M : Type 0} (g : Meaning A M) (cells rest : List A) (more : List (ℕ × M)) → IsOwedInTurn g cells rest more → (x : ℕ × M) → Member x more → (i : ℕ) × (a : A) × At rest i a × g.owes a x.0 x.1
-in_turn_only g cells [] more h x k = absurd (subst (λ q. Member x q) h k)
-in_turn_only g cells (b ∷ rest) more h x k = elim (member_cases x h.0 h.1 (subst (λ q. Member x q) h.2 k)) [
+in_turn_only : {A M : Type 0} (g : Meaning A M) (cells rest : List A) (more : List (ℕ × M)) → IsOwedInTurn g cells rest more → (x : ℕ × M) → OneOf x more → (i : ℕ) × (a : A) × At rest i a × g.owes a x.0 x.1
+in_turn_only g cells [] more h x k = absurd (subst (λ q. OneOf x q) h k)
+in_turn_only g cells (b ∷ rest) more h x k = elim (member_cases x h.0 h.1 (subst (λ q. OneOf x q) h.2 k)) [
   | inl w ↦ (zero, b, refl, ((h.3.are x).0 w).0)
   | inr w ↦ let r = in_turn_only g cells rest h.1 h.4 x w in (suc r.0, r.1, r.2, r.3)
 ]
 
 -- each message that one of the cells owes is there, unless it is had
-in_turn_every : {A M : Type 0} (g : Meaning A M) (cells rest : List A) (more : List (ℕ × M)) → IsOwedInTurn g cells rest more → (i : ℕ) (a : A) → At rest i a → (x : ℕ × M) → g.owes a x.0 x.1 → (Had g cells x → ⊥) → Member x more
+in_turn_every : {A M : Type 0} (g : Meaning A M) (cells rest : List A) (more : List (ℕ × M)) → IsOwedInTurn g cells rest more → (i : ℕ) (a : A) → At rest i a → (x : ℕ × M) → g.owes a x.0 x.1 → (Had g cells x → ⊥) → OneOf x more
 in_turn_every g cells [] more h i a at x o n = elim at [ ]
 in_turn_every g cells (b ∷ rest) more h zero a at x o n =
-    subst (λ q. Member x q) (sym h.2) (member_left x h.0 h.1 ((h.3.are x).1 (subst (λ c. g.owes c x.0 x.1) at o, n)))
-in_turn_every g cells (b ∷ rest) more h (suc i) a at x o n = subst (λ q. Member x q) (sym h.2) (member_right x h.0 h.1 (in_turn_every g cells rest h.1 h.4 i a at x o n))
+    subst (λ q. OneOf x q) (sym h.2) (member_left x h.0 h.1 ((h.3.are x).1 (subst (λ c. g.owes c x.0 x.1) at o, n)))
+in_turn_every g cells (b ∷ rest) more h (suc i) a at x o n = subst (λ q. OneOf x q) (sym h.2) (member_right x h.0 h.1 (in_turn_every g cells rest h.1 h.4 i a at x o n))
 
 -- what is owed in turn is lawful
 pub in_turn_lawful : {A M : Type 0} (g : Meaning A M) (cells : List A) (more : List (ℕ × M)) → AreCells g cells → OwedInFamily g → IsOwedInTurn g cells cells more → AreAllLawful g cells more

@@ -1,6 +1,6 @@
 //! Cells that take messages.
 ghost use Rattle.std.specs.Prelude.{◌≡◌, ◌++◌, ◌<◌, ℕ, OnOk, true};
-ghost use Rattle.cd_base.specs.Lists.{Member, IsApart};
+ghost use Rattle.cd_base.specs.Lists.{OneOf, HasNoRepeats};
 ghost use Rattle.cd_actor.specs.Sends.{sent, Sends};
 ghost use Rattle.cd_actor.specs.Meaning.{Meaning, Keeps, IsSame, Delivers};
 
@@ -57,9 +57,9 @@ pub trait Actor {
     fn list_owed(&self, alloc: Global, out: &mut Outbox<Self::Msg>) -> Result<(), Memory>
         ensures follows { out.new ≡ out.old ++ sent out.old out.new }
         ensures sends { meaning.whole self.now → Sends (meaning.lawful self.now) out.old out.new }
-        ensures only { (p : ℕ) (m : Self.Msg) → Member (p, m) (sent out.old out.new) → meaning.owes self.now p m }
-        ensures once { IsApart (sent out.old out.new) }
-        ensures every { OnOk result ((p : ℕ) (m : Self.Msg) → meaning.owes self.now p m → Member (p, m) (sent out.old out.new)) };
+        ensures only { (p : ℕ) (m : Self.Msg) → OneOf (p, m) (sent out.old out.new) → meaning.owes self.now p m }
+        ensures once { HasNoRepeats (sent out.old out.new) }
+        ensures every { OnOk result ((p : ℕ) (m : Self.Msg) → meaning.owes self.now p m → OneOf (p, m) (sent out.old out.new)) };
 
     /// How many contexts it has. A cell that has more than the last `u64` says that.
     fn contexts(&self) -> u64

@@ -1,6 +1,6 @@
 //! What cells owe each other and have not.
 ghost use Rattle.std.specs.Prelude.{◌≡◌, ◌++◌, OnOk};
-ghost use Rattle.cd_base.specs.Lists.{IsApart};
+ghost use Rattle.cd_base.specs.Lists.{HasNoRepeats};
 ghost use Rattle.cd_actor.specs.Cells.{AreCells, AreAllLawful, IsOwedCovered};
 ghost use Rattle.cd_actor.specs.Owed.{IsNotHadOf, IsOwedInTurn};
 ghost use Rattle.cd_actor.specs.Sends.{sent};
@@ -41,7 +41,7 @@ fn put_not_had<A: Actor>(
 where
     A::Msg: Drop,
     requires lawful { AreAllLawful A.meaning cells.now messages }
-    requires apart { IsApart messages }
+    requires apart { HasNoRepeats messages }
     ensures follows { OnOk result (pending.new ≡ pending.old ++ sent pending.old pending.new) }
     ensures not_had { OnOk result (IsNotHadOf A.meaning cells.now messages (sent pending.old pending.new)) }
 {

@@ -4,14 +4,14 @@ use Rattle.std.specs.Result.{IsOk, IsErr}
 use Rattle.std.proofs.lemmas.Bool.{cases_lt}
 use Rattle.std.proofs.lemmas.List.{append_assoc, append-nil, nil_from_length, take_all}
 use Rattle.cd_base.specs.Appends.{Appends}
-use Rattle.cd_base.specs.Lists.{Member}
+use Rattle.cd_base.specs.Lists.{OneOf}
 use Rattle.cd_base.proofs.Members.{member_left, member_right, member_cases, member_get}
 
 -- what is among some is among more
 abbrev pub Grows : {X : Type 0} → (X → List X → Type 0) → Type 0
 Grows {X} Among = (x : X) (xs ys : List X) → Among x xs ⊎ Among x ys → Among x (xs ++ ys)
 
-pub member_grows : {X : Type 0} (x : X) (xs ys : List X) → Member x xs ⊎ Member x ys → Member x (xs ++ ys)
+pub member_grows : {X : Type 0} (x : X) (xs ys : List X) → OneOf x xs ⊎ OneOf x ys → OneOf x (xs ++ ys)
 member_grows x xs ys (inl m) = member_left x xs ys m
 member_grows x xs ys (inr m) = member_right x xs ys m
 
@@ -53,7 +53,7 @@ failed (Err y) e h = cc
 
 -- Q of one of the items
 abbrev pub OfOne : {I X : Type 0} → (I → X → Type 0) → List I → X → Type 0
-OfOne {I} Q items x = (item : I) × Member item items × Q item x
+OfOne {I} Q items x = (item : I) × OneOf item items × Q item x
 
 -- the items before the rest have appended what they add
 pub record HasWalked {I X : Type 0} (Among : X → List X → Type 0) (Q : I → X → Type 0) (all rest : List I) (old new : List X) : Type 0 where
@@ -66,14 +66,14 @@ walk_begins Q all old = record { seen = []; split = refl; appended = none (OfOne
 
 -- the item that comes next is one of all
 pub walk_item : {I X : Type 0} {Among : X → List X → Type 0} (Q : I → X → Type 0) (all rest : List I) (d : I) (old new : List X)
-    → HasWalked Among Q all rest old new → 1 ≤ length rest → Member (get_or rest 0 d) all
+    → HasWalked Among Q all rest old new → 1 ≤ length rest → OneOf (get_or rest 0 d) all
 walk_item {I} Q all rest d old new w l =
-    subst (λ (xs : List I). Member (get_or rest 0 d) xs) (sym w.split) (member_right (get_or rest 0 d) w.seen rest (member_get rest 0 d (omega arith)))
+    subst (λ (xs : List I). OneOf (get_or rest 0 d) xs) (sym w.split) (member_right (get_or rest 0 d) w.seen rest (member_get rest 0 d (omega arith)))
 
 pub next_member : {I X : Type 0} {Among : X → List X → Type 0} (Q : I → X → Type 0) (all rest : List I) (item : I) (old new : List X)
-    → HasWalked Among Q all rest old new → 1 ≤ length rest → item ≡ get_or rest 0 item → Member item all
+    → HasWalked Among Q all rest old new → 1 ≤ length rest → item ≡ get_or rest 0 item → OneOf item all
 next_member {I} Q all rest item old new w l is =
-    subst (λ (i : I). Member i all) (sym is) (walk_item Q all rest item old new w l)
+    subst (λ (i : I). OneOf i all) (sym is) (walk_item Q all rest item old new w l)
 
 seen_more : {I X : Type 0} (Q : I → X → Type 0) (seen : List I) (item : I) (x : X) → OfOne Q seen x ⊎ Q item x → OfOne Q (seen ++ item ∷ []) x
 seen_more Q seen item x (inl q) = (q.0, member_left q.0 seen (item ∷ []) q.1, q.2)
@@ -111,7 +111,7 @@ walk_stops_as {I} grows Q P all (x ∷ rest) item Done Done' old mid new w l is 
     let here : (w.seen ++ item ∷ []) ++ rest ≡ all
     = append_assoc w.seen (item ∷ []) rest ∙ ap (λ (y : I). w.seen ++ y ∷ rest) is ∙ sym w.split in
     otherwise (λ d. OfOne Q w.seen d ⊎ Q item d) P (Unit {0} × Done) Done' old new
-    (λ d q. let m = seen_more Q w.seen item d q in f d (m.0, subst (λ (l : List I). Member m.0 l) here (member_left m.0 (w.seen ++ item ∷ []) rest m.1), m.2))
+    (λ d q. let m = seen_more Q w.seen item d q in f d (m.0, subst (λ (l : List I). OneOf m.0 l) here (member_left m.0 (w.seen ++ item ∷ []) rest m.1), m.2))
     (λ h d q. absurd (undone h)) (λ h. absurd (undone h))
     (both grows (OfOne Q w.seen) (Q item) (Unit {0}) Done old mid new w.appended a)
 

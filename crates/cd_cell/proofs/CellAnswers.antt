@@ -1,7 +1,7 @@
 -- Closed cells are closed contexts, each found by its key.
 use Rattle.std.proofs.Common.{◌≡◌, ℕ, suc, inl, inr, Bool, true, List, [], ◌∷◌, length, map, get_or, Option, Some, None, refl, sym, ap, subst, ◌∙◌}
 use Rattle.cd_base.specs.Keys.{plain}
-use Rattle.cd_base.specs.Lists.{Member, collect}
+use Rattle.cd_base.specs.Lists.{OneOf, collect}
 use Rattle.cd_base.specs.declared.normal.Normal.{Normal}
 use Rattle.cd_base.proofs.Members.{member_map, map_member, member_collect, collect_member}
 use Rattle.cd_clause.specs.declared.elem.Elem.{Elem}
@@ -19,7 +19,7 @@ use Rattle.cd_actor.specs.Cells.{At, Had}
 use Rattle.cd_actor.proofs.At.{at_get, at_member}
 use Rattle.cd_cell.specs.Cells.{CellState, IsWhole, place_of, state_at, meaning}
 use Rattle.cd_cell.specs.Closed.{Closed}
-use Rattle.cd_cell.specs.ClosedCells.{AreClosed, CellExactness}
+use Rattle.cd_cell.specs.ClosedCells.{AreSettled, CellExactness}
 use Rattle.cd_cell.proofs.Lookups.{state_of_member, member_of_state, has_from}
 use Rattle.cd_cell.proofs.Saturating.{saturation}
 
@@ -31,7 +31,7 @@ abbrev found : Option State → List ℕ → State
 found (Some s) key = s
 found None key = nothing key
 
-module _ (n : Normal) (cells : List CellState) (closed : AreClosed n cells) where
+module _ (n : Normal) (cells : List CellState) (closed : AreSettled n cells) where
   abbrev no_cell : CellState
   no_cell = record { number = 0; cells = 0; normal = n; contexts = []; failed = true }
 
@@ -54,13 +54,13 @@ module _ (n : Normal) (cells : List CellState) (closed : AreClosed n cells) wher
     c : CellState
     at : At cells i c
     s : State
-    isin : Member (key, s) c.contexts
+    isin : OneOf (key, s) c.contexts
 
   is_whole : (i : ℕ) (c : CellState) → At cells i c → IsWhole c
   is_whole i c at = closed.are_cells.whole i c at
 
   -- a key's context is that of its cell
-  state_is : (i : ℕ) (c : CellState) → At cells i c → (key : List ℕ) (s : State) → Member (key, s) c.contexts → state key ≡ s
+  state_is : (i : ℕ) (c : CellState) → At cells i c → (key : List ℕ) (s : State) → OneOf (key, s) c.contexts → state key ≡ s
   state_is i c at key s m =
       let w = is_whole i c at in
       let p : place_of c.cells key ≡ c.number = w.cell.placed key s m in
@@ -70,19 +70,19 @@ module _ (n : Normal) (cells : List CellState) (closed : AreClosed n cells) wher
       let e : cell_of key ≡ c = ap (λ z. get_or cells z no_cell) q ∙ at_get cells i c no_cell at in
       ap (λ (d : CellState). found (state_at d.contexts key) key) e ∙ ap (λ o. found o key) (state_of_member c.contexts key s w.cell.apart m)
 
-  known : (key : List ℕ) → Member key keys → Here key
+  known : (key : List ℕ) → OneOf key keys → Here key
   known key m =
       let r = collect_member keys_in key cells m in
       let p = place_in cells r.0 r.1 in
       let e = map_member (λ (e : List ℕ × State). e.0) key r.0.contexts r.2 in
-      record { i = p.0; c = r.0; at = p.1; s = e.0.1; isin = subst (λ k. Member (k, e.0.1) r.0.contexts) (sym e.2) e.1 }
+      record { i = p.0; c = r.0; at = p.1; s = e.0.1; isin = subst (λ k. OneOf (k, e.0.1) r.0.contexts) (sym e.2) e.1 }
     where
-      place_in : (cs : List CellState) (c : CellState) → Member c cs → (i : ℕ) × At cs i c
+      place_in : (cs : List CellState) (c : CellState) → OneOf c cs → (i : ℕ) × At cs i c
       place_in [] c h = absurd h
       place_in (d ∷ cs) c (inl h) = (0, h)
       place_in (d ∷ cs) c (inr h) = let r = place_in cs c h in (suc r.0, r.1)
 
-  is_known : (i : ℕ) (c : CellState) → At cells i c → (key : List ℕ) (s : State) → Member (key, s) c.contexts → Member key keys
+  is_known : (i : ℕ) (c : CellState) → At cells i c → (key : List ℕ) (s : State) → OneOf (key, s) c.contexts → OneOf key keys
   is_known i c at key s m = member_collect keys_in c key cells (at_member cells i c at) (member_map (λ (e : List ℕ × State). e.0) (key, s) c.contexts m)
 
   context : (key : List ℕ) (h : Here key) → IsContext n (state key)
@@ -99,7 +99,7 @@ module _ (n : Normal) (cells : List CellState) (closed : AreClosed n cells) wher
       (subst (λ z. ClosedLocally h.c.normal z) (sym (state_is h.i h.c h.at key h.s h.isin)) ((is_whole h.i h.c h.at).closed key h.s h.isin))
 
   -- what a context owes is had
-  had : (key : List ℕ) (h : Here key) (note : Note) → Owes n (state key) note → Member note.key keys × (has_fact (state note.key) note.fact ≡ true)
+  had : (key : List ℕ) (h : Here key) (note : Note) → Owes n (state key) note → OneOf note.key keys × (has_fact (state note.key) note.fact ≡ true)
   had key h note o =
       let o1 : Owes n h.s note = subst (λ z. Owes n z note) (state_is h.i h.c h.at key h.s h.isin) o in
       let o2 : Owes h.c.normal h.s note = subst (λ z. Owes z h.s note) (sym (closed.normal h.i h.c h.at)) o1 in
@@ -117,10 +117,10 @@ module _ (n : Normal) (cells : List CellState) (closed : AreClosed n cells) wher
     had = λ key m. had key (known key m);
   }
 
-  derived : (key : List ℕ) → Member key keys → (c : List Elem) → Member c (live_of (state key)) → Derived n key c
+  derived : (key : List ℕ) → OneOf key keys → (c : List Elem) → OneOf c (live_of (state key)) → Derived n key c
   derived key m c i = subst (λ k. Derived n k c) (own key (known key m)) (live_derived n (state key) (context key (known key m)) c i)
 
-  pub exact_at : (below : ℕ → ℕ → Bool) → IsClosure n below → RolesInRange n → (i : ℕ) (c : CellState) → At cells i c → (a : ℕ) (s : State) → Member (plain a ∷ [], s) c.contexts → Exact n a (live_of s)
+  pub exact_at : (below : ℕ → ℕ → Bool) → IsClosure n below → RolesInRange n → (i : ℕ) (c : CellState) → At cells i c → (a : ℕ) (s : State) → OneOf (plain a ∷ [], s) c.contexts → Exact n a (live_of s)
   exact_at below closure roles i c at a s m =
       subst (λ z. Exact n a (live_of z)) (state_is i c at (plain a ∷ []) s m)
       (exact n below closure roles keys (λ k. live_of (state k)) (saturation n keys state is_closed) derived a (is_known i c at (plain a ∷ []) s m))

@@ -3,7 +3,7 @@ use Rattle.std.proofs.Common.{◌≡◌, ℕ, suc, ◌+◌, ◌≤◌, inl, inr,
 use Rattle.std.specs.List.{sum_by}
 use Rattle.std.proofs.lemmas.List.{length-append, length-map, map-append}
 use Rattle.std.proofs.lemmas.List.Sums.{sum_by-append, sum_by-cons}
-use Rattle.cd_base.specs.Lists.{Member, IsApart, collect}
+use Rattle.cd_base.specs.Lists.{OneOf, HasNoRepeats, collect}
 use Rattle.cd_base.specs.declared.normal.Normal.{Normal}
 use Rattle.cd_base.proofs.Members.{member_cases, map_member, collect_member}
 use Rattle.cd_actor.specs.Cells.{At}
@@ -19,7 +19,7 @@ states_in c = map (λ (e : List ℕ × State). e.1) c.contexts
 abbrev key_of : State → List ℕ
 key_of s = s.key
 
-apart_both : {X : Type 0} (xs ys : List X) → IsApart xs → IsApart ys → ((x : X) → Member x xs → Member x ys → ⊥) → IsApart (xs ++ ys)
+apart_both : {X : Type 0} (xs ys : List X) → HasNoRepeats xs → HasNoRepeats ys → ((x : X) → OneOf x xs → OneOf x ys → ⊥) → HasNoRepeats (xs ++ ys)
 apart_both [] ys a b never = b
 apart_both (x ∷ xs) ys a b never = (
   λ m. elim (member_cases x xs ys m) [ inl h ↦ a.0 h | inr h ↦ never x (inl refl) h ],
@@ -27,7 +27,7 @@ apart_both (x ∷ xs) ys a b never = (
 )
 
 -- a cell's states have its keys
-keys_are : (contexts : List (List ℕ × State)) → ((h : List ℕ) (s : State) → Member (h, s) contexts → s.key ≡ h)
+keys_are : (contexts : List (List ℕ × State)) → ((h : List ℕ) (s : State) → OneOf (h, s) contexts → s.key ≡ h)
     → map key_of (map (λ (e : List ℕ × State). e.1) contexts) ≡ map (λ (e : List ℕ × State). e.0) contexts
 keys_are [] own = refl
 keys_are (e ∷ es) own = let k = own e.0 e.1 (inl refl) in let r = keys_are es (λ h s m. own h s (inr m)) in λ i. k i ∷ r i
@@ -37,35 +37,35 @@ module _ (places : ℕ) where
   abbrev AreFrom : ℕ → List CellState → Type 0
   AreFrom k cells = (i : ℕ) (c : CellState) → At cells i c → IsCell c.normal c.number c.cells c.contexts × (c.number ≡ k + i) × (c.cells ≡ places)
 
-  placed : (k : ℕ) (cells : List CellState) → AreFrom k cells → (key : List ℕ) → Member key (map key_of (collect states_in cells)) → (i : ℕ) × (place_of places key ≡ k + i)
+  placed : (k : ℕ) (cells : List CellState) → AreFrom k cells → (key : List ℕ) → OneOf key (map key_of (collect states_in cells)) → (i : ℕ) × (place_of places key ≡ k + i)
   placed k cells are key m =
       let s = map_member key_of key (collect states_in cells) m in
       let c = collect_member states_in s.0 cells s.1 in
       let e = map_member (λ (e : List ℕ × State). e.1) s.0 c.0.contexts c.2 in
       let p = at_of cells c.0 c.1 in
       let a = are p.0 c.0 p.1 in
-      let h : Member (e.0.0, e.0.1) c.0.contexts = e.1 in
+      let h : OneOf (e.0.0, e.0.1) c.0.contexts = e.1 in
       let o : e.0.1.key ≡ e.0.0 = a.0.own e.0.0 e.0.1 h in
       let q : key ≡ e.0.0 = s.2 ∙ (ap key_of e.2 ∙ o) in
       let r : place_of c.0.cells e.0.0 ≡ c.0.number = a.0.placed e.0.0 e.0.1 h in
       (p.0, ap (λ z. place_of places z) q ∙ (ap (λ z. place_of z e.0.0) (sym a.2) ∙ (r ∙ a.1)))
     where
-      at_of : (cs : List CellState) (c : CellState) → Member c cs → (i : ℕ) × At cs i c
+      at_of : (cs : List CellState) (c : CellState) → OneOf c cs → (i : ℕ) × At cs i c
       at_of [] c h = absurd h
       at_of (d ∷ cs) c (inl h) = (0, h)
       at_of (d ∷ cs) c (inr h) = let r = at_of cs c h in (suc r.0, r.1)
 
-  apart : (k : ℕ) (cells : List CellState) → AreFrom k cells → IsApart (map key_of (collect states_in cells))
+  apart : (k : ℕ) (cells : List CellState) → AreFrom k cells → HasNoRepeats (map key_of (collect states_in cells))
   apart k [] are = tt
   apart k (c ∷ cs) are =
       let a = are 0 c refl in
       let rest : AreFrom (suc k) cs = λ i d at. let r = are (suc i) d at in (r.0, (let e : d.number ≡ k + suc i = r.1 in omega arith), r.2) in
       let keys = keys_are c.contexts a.0.own in
-      subst IsApart (sym (map-append key_of (states_in c) (collect states_in cs)))
-      (apart_both (map key_of (states_in c)) (map key_of (collect states_in cs)) (subst IsApart (sym keys) a.0.apart) (apart (suc k) cs rest)
+      subst HasNoRepeats (sym (map-append key_of (states_in c) (collect states_in cs)))
+      (apart_both (map key_of (states_in c)) (map key_of (collect states_in cs)) (subst HasNoRepeats (sym keys) a.0.apart) (apart (suc k) cs rest)
       (λ key m later.
-      let here = map_member (λ (e : List ℕ × State). e.0) key c.contexts (subst (λ z. Member key z) keys m) in
-      let h : Member (here.0.0, here.0.1) c.contexts = here.1 in
+      let here = map_member (λ (e : List ℕ × State). e.0) key c.contexts (subst (λ z. OneOf key z) keys m) in
+      let h : OneOf (here.0.0, here.0.1) c.contexts = here.1 in
       let r : place_of c.cells here.0.0 ≡ c.number = a.0.placed here.0.0 here.0.1 h in
       let p : place_of places key ≡ c.number = ap (λ z. place_of places z) here.2 ∙ (ap (λ z. place_of z here.0.0) (sym a.2) ∙ r) in
       let q = placed (suc k) cs rest key later in
@@ -73,7 +73,7 @@ module _ (places : ℕ) where
       let f : c.number ≡ k + 0 = a.1 in
       omega arith))
 
-  each : (n : Normal) (cells : List CellState) → ((i : ℕ) (c : CellState) → At cells i c → IsCell c.normal c.number c.cells c.contexts × (c.normal ≡ n)) → (s : State) → Member s (collect states_in cells) → IsContext n s
+  each : (n : Normal) (cells : List CellState) → ((i : ℕ) (c : CellState) → At cells i c → IsCell c.normal c.number c.cells c.contexts × (c.normal ≡ n)) → (s : State) → OneOf s (collect states_in cells) → IsContext n s
   each n [] are s m = absurd m
   each n (c ∷ cs) are s m = elim (member_cases s (states_in c) (collect states_in cs) m) [
     | inl h ↦

@@ -5,7 +5,7 @@ use Rattle.std.specs.Option.{option_map_or}
 use Rattle.std.proofs.lemmas.Bool.{false≢true, cases_lt}
 use Rattle.cd_actor.specs.Meaning.{Keeps, Delivers, HasRisen}
 use Rattle.cd_actor.specs.Sends.{sent, Sends}
-use Rattle.cd_base.specs.Lists.{Member, IsApart}
+use Rattle.cd_base.specs.Lists.{OneOf, HasNoRepeats}
 use Rattle.cd_base.specs.declared.normal.Normal.{Normal}
 use Rattle.cd_base.specs.Counts.{last}
 use Rattle.cd_context.specs.Facts.{has_fact, same_key, count}
@@ -16,19 +16,19 @@ use Rattle.cd_context.specs.declared.facts.Fact.{Fact}
 use Rattle.cd_context.specs.declared.facts.Note.{Note}
 use Rattle.cd_cell.specs.Cells.{CellState, IsCell, IsSound, IsWhole, IsLawfulNote, OwesFrom, state_at, has_note, place_of, contexts_of, facts_of, meaning}
 use Rattle.cd_cell.specs.Sending.{SendsNotes}
-use Rattle.cd_cell.specs.Telling.{put, AreClosed, Puts, Tells}
+use Rattle.cd_cell.specs.Telling.{put, AreClosedContexts, Puts, Tells}
 use Rattle.cd_cell.proofs.Puts.{keys_of, same_key-true, put_member, put_state, put_other, put_apart, put_length, new_length, put_sum, new_sum, put_least, state_member}
 
 -- what a whole cell gives to the telling
-pub are_closed : (u : CellState) → IsWhole u → AreClosed u.normal u.contexts
+pub are_closed : (u : CellState) → IsWhole u → AreClosedContexts u.normal u.contexts
 are_closed u w = record { own = w.cell.own; context = w.cell.context; closed = w.closed }
 
 -- ---- the contexts
 
 module _ (n : Normal) (old : List (List ℕ × State)) (key : List ℕ) (new : List (List ℕ × State)) (p : Puts n old key new) where
   -- what holds of each context that was there, and of the one of the key, holds of each
-  each : (P : List ℕ → State → Type 0) → ((h : List ℕ) (s : State) → Member (h, s) old → P h s) → P key p.state → (h : List ℕ) (s : State) → Member (h, s) new → P h s
-  each P f e h s m = elim (put_member old key p.state (h, s) (subst (λ (l : List (List ℕ × State)). Member (h, s) l) p.is m)) [
+  each : (P : List ℕ → State → Type 0) → ((h : List ℕ) (s : State) → OneOf (h, s) old → P h s) → P key p.state → (h : List ℕ) (s : State) → OneOf (h, s) new → P h s
+  each P f e h s m = elim (put_member old key p.state (h, s) (subst (λ (l : List (List ℕ × State)). OneOf (h, s) l) p.is m)) [
     | inl q ↦ f h s q
     | inr q ↦ subst (λ (x : List ℕ × State). P x.0 x.1) (sym q) e
   ]
@@ -36,13 +36,13 @@ module _ (n : Normal) (old : List (List ℕ × State)) (key : List ℕ) (new : L
   pub cell_kept : (number cells : ℕ) → number ≡ place_of cells key → IsCell n number cells old → IsCell n number cells new
   cell_kept number cells goes i = record {
     below = i.below;
-    apart = subst (λ (l : List (List ℕ × State)). IsApart (keys_of l)) (sym p.is) (put_apart old key p.state i.apart);
+    apart = subst (λ (l : List (List ℕ × State)). HasNoRepeats (keys_of l)) (sym p.is) (put_apart old key p.state i.apart);
     own = each (λ h s. s.key ≡ h) i.own p.next.own;
     placed = each (λ h s. place_of cells h ≡ number) i.placed (sym goes);
     context = each (λ h s. IsContext n s) i.context p.next.context;
   }
 
-  pub closed_kept : ((h : List ℕ) (s : State) → Member (h, s) old → ClosedLocally n s) → ClosedLocally n p.state → (h : List ℕ) (s : State) → Member (h, s) new → ClosedLocally n s
+  pub closed_kept : ((h : List ℕ) (s : State) → OneOf (h, s) old → ClosedLocally n s) → ClosedLocally n p.state → (h : List ℕ) (s : State) → OneOf (h, s) new → ClosedLocally n s
   closed_kept f e = each (λ h s. ClosedLocally n s) f e
 
   -- the context of the key has what the state has
@@ -152,7 +152,7 @@ module _ (u : CellState) (note : Note) (new : List (List ℕ × State)) (notes :
   cell_now : IsCell u.normal u.number u.cells new
   cell_now = cell_kept u.normal u.contexts note.key new t.puts u.number u.cells goes w.cell
 
-  closed_now : (h : List ℕ) (s : State) → Member (h, s) new → ClosedLocally u.normal s
+  closed_now : (h : List ℕ) (s : State) → OneOf (h, s) new → ClosedLocally u.normal s
   closed_now = closed_kept u.normal u.contexts note.key new t.puts w.closed t.takes.closed
 
   pub sound_now : (failed : Bool) → IsSound (with_contexts u new failed)
@@ -174,12 +174,12 @@ module _ (u : CellState) (note : Note) (new : List (List ℕ × State)) (notes :
           record { below = omega arith; goes = e; reachable = l.0; justified = l.1 };
     }
 
-    owed_now : Done → (p : ℕ) (m : Note) → OwesFrom u.normal u.cells new p m → OwesFrom u.normal u.cells u.contexts p m ⊎ Member (p, m) (sent out new_out)
-    owed_now done p m o = elim (put_member u.contexts note.key t.puts.state (o.key, o.state) (subst (λ (l : List (List ℕ × State)). Member (o.key, o.state) l) t.puts.is o.here)) [
+    owed_now : Done → (p : ℕ) (m : Note) → OwesFrom u.normal u.cells new p m → OwesFrom u.normal u.cells u.contexts p m ⊎ OneOf (p, m) (sent out new_out)
+    owed_now done p m o = elim (put_member u.contexts note.key t.puts.state (o.key, o.state) (subst (λ (l : List (List ℕ × State)). OneOf (o.key, o.state) l) t.puts.is o.here)) [
       | inl q ↦ inl (record { key = o.key; state = o.state; here = q; owes = o.owes; goes = o.goes })
       | inr q ↦ elim (t.takes.every m (subst (λ (s : State). Owes u.normal s m) (ap (λ (x : List ℕ × State). x.1) q) o.owes)) [
         | inl b ↦ inl (record { key = note.key; state = b.0; here = state_member u.contexts note.key b.0 b.1; owes = b.2; goes = o.goes })
-        | inr k ↦ inr (subst (λ (r : ℕ). Member (r, m) (sent out new_out)) (sym o.goes) (a.every done m k))
+        | inr k ↦ inr (subst (λ (r : ℕ). OneOf (r, m) (sent out new_out)) (sym o.goes) (a.every done m k))
       ]
     ]
 

@@ -4,7 +4,7 @@ use Rattle.std.specs.Option.{option_map_or}
 use Rattle.std.specs.Cmp.Lexicographic.{same_text}
 use Rattle.std.proofs.lemmas.Bool.{cases_Bool, false≢true}
 use Rattle.std.proofs.lemmas.Cmp.{nat_list_eq_equiv}
-use Rattle.cd_base.specs.Lists.{Member, IsApart}
+use Rattle.cd_base.specs.Lists.{OneOf, HasNoRepeats}
 use Rattle.cd_base.proofs.Members.{member_map}
 use Rattle.cd_context.specs.Facts.{has_fact, same_key}
 use Rattle.cd_context.specs.State.{State}
@@ -15,18 +15,18 @@ same_self : (k : List ℕ) → same_key k k ≡ true
 same_self k = nat_list_eq_equiv.refl k
 
 -- the context of a key is found under it
-pub state_of_member : (es : List (List ℕ × State)) (k : List ℕ) (s : State) → IsApart (map (λ e. e.0) es) → Member (k, s) es → state_at es k ≡ Some s
+pub state_of_member : (es : List (List ℕ × State)) (k : List ℕ) (s : State) → HasNoRepeats (map (λ e. e.0) es) → OneOf (k, s) es → state_at es k ≡ Some s
 state_of_member [] k s a m = absurd m
 state_of_member (e ∷ es) k s a (inl h) =
     let q : same_key k e.0 ≡ true = ap (λ (z : List ℕ × State). same_key k z.0) (sym h) ∙ same_self k in
     ap (λ b. cond b (Some e.1) (state_at es k)) q ∙ ap (λ (z : List ℕ × State). Some z.1) (sym h)
 state_of_member (e ∷ es) k s a (inr h) = elim (cases_Bool (same_key k e.0)) [
-  | inl t ↦ absurd (a.0 (subst (λ z. Member z (map (λ (e : List ℕ × State). e.0) es)) (same_text k e.0 (sym t)) (member_map (λ (e : List ℕ × State). e.0) (k, s) es h)))
+  | inl t ↦ absurd (a.0 (subst (λ z. OneOf z (map (λ (e : List ℕ × State). e.0) es)) (same_text k e.0 (sym t)) (member_map (λ (e : List ℕ × State). e.0) (k, s) es h)))
   | inr f ↦ ap (λ b. cond b (Some e.1) (state_at es k)) f ∙ state_of_member es k s a.1 h
 ]
 
 -- what is found under a key is listed with it
-pub member_of_state : (es : List (List ℕ × State)) (k : List ℕ) (s : State) → state_at es k ≡ Some s → Member (k, s) es
+pub member_of_state : (es : List (List ℕ × State)) (k : List ℕ) (s : State) → state_at es k ≡ Some s → OneOf (k, s) es
 member_of_state [] k s h = absurd (false≢true (ap (λ o. option_map_or (λ z. true) o false) h))
 member_of_state (e ∷ es) k s h = elim (cases_Bool (same_key k e.0)) [
   | inl t ↦

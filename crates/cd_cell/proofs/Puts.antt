@@ -12,7 +12,7 @@ use Rattle.std.proofs.lemmas.Option.{none-some, same_Some}
 use Rattle.std.proofs.lemmas.Slice.Eq.{slice_eq-Decides}
 use Rattle.cd_actor.proofs.Members.{apart_more}
 use Rattle.cd_base.proofs.Members.{member_map}
-use Rattle.cd_base.specs.Lists.{Member, IsApart}
+use Rattle.cd_base.specs.Lists.{OneOf, HasNoRepeats}
 use Rattle.cd_base.specs.Counts.{last}
 use Rattle.cd_context.specs.Facts.{has_fact, same_key, count}
 use Rattle.cd_context.specs.State.{State}
@@ -47,26 +47,26 @@ module _ (es : List (List ℕ × State)) (note : Note) where
   has_none e = ap (λ (o : Option State). option_map_or (λ (s : State). has_fact s note.fact) o false) (e ∙ sym (state_at_is es note.key))
 
 -- the state that is found is that of a context
-pub state_member : (es : List (List ℕ × State)) (k : List ℕ) (b : State) → state_at es k ≡ Some b → Member (k, b) es
+pub state_member : (es : List (List ℕ × State)) (k : List ℕ) (b : State) → state_at es k ≡ Some b → OneOf (k, b) es
 state_member [] k b h = absurd (none-some b h)
 state_member (e ∷ es) k b h = by (state_member es k b) (same_key k e.0) refl h
   where
-    by : (state_at es k ≡ Some b → Member (k, b) es) → (t : Bool) → same_key k e.0 ≡ t → cond t (Some e.1) (state_at es k) ≡ Some b → Member (k, b) (e ∷ es)
+    by : (state_at es k ≡ Some b → OneOf (k, b) es) → (t : Bool) → same_key k e.0 ≡ t → cond t (Some e.1) (state_at es k) ≡ Some b → OneOf (k, b) (e ∷ es)
     by rest true q r = inl (λ j. (same_key-true k e.0 q j, sym (same_Some e.1 b r) j))
     by rest false q r = inr (rest r)
 
 -- where none is found, none has the key
-pub none_has : (es : List (List ℕ × State)) (k : List ℕ) → state_at es k ≡ None → Member k (keys_of es) → ⊥
+pub none_has : (es : List (List ℕ × State)) (k : List ℕ) → state_at es k ≡ None → OneOf k (keys_of es) → ⊥
 none_has [] k h m = absurd m
 none_has (e ∷ es) k h m = by (none_has es k) (same_key k e.0) refl h m
   where
-    by : (state_at es k ≡ None → Member k (keys_of es) → ⊥) → (t : Bool) → same_key k e.0 ≡ t → cond t (Some e.1) (state_at es k) ≡ None → Member k (keys_of (e ∷ es)) → ⊥
+    by : (state_at es k ≡ None → OneOf k (keys_of es) → ⊥) → (t : Bool) → same_key k e.0 ≡ t → cond t (Some e.1) (state_at es k) ≡ None → OneOf k (keys_of (e ∷ es)) → ⊥
     by rest true q r m = none-some e.1 (sym r)
     by rest false q r (inl i) = false≢true (sym q ∙ ap (same_key k) (sym i) ∙ same_key_refl k)
     by rest false q r (inr i) = rest r i
 
 -- of distinct keys each finds its own state
-pub member_state : (es : List (List ℕ × State)) (k : List ℕ) (s : State) → IsApart (keys_of es) → Member (k, s) es → state_at es k ≡ Some s
+pub member_state : (es : List (List ℕ × State)) (k : List ℕ) (s : State) → HasNoRepeats (keys_of es) → OneOf (k, s) es → state_at es k ≡ Some s
 member_state [] k s a m = absurd m
 member_state (e ∷ es) k s a (inl i) =
     let q : same_key k e.0 ≡ true = ap (same_key k) (sym (ap (λ (p : List ℕ × State). p.0) i)) ∙ same_key_refl k in
@@ -74,7 +74,7 @@ member_state (e ∷ es) k s a (inl i) =
 member_state (e ∷ es) k s a (inr m) = by (member_state es k s a.1 m) (same_key k e.0) refl
   where
     by : state_at es k ≡ Some s → (t : Bool) → same_key k e.0 ≡ t → cond t (Some e.1) (state_at es k) ≡ Some s
-    by rest true q = absurd (a.0 (subst (λ (w : List ℕ). Member w (keys_of es)) (same_key-true k e.0 q) (member_map (λ (p : List ℕ × State). p.0) (k, s) es m)))
+    by rest true q = absurd (a.0 (subst (λ (w : List ℕ). OneOf w (keys_of es)) (same_key-true k e.0 q) (member_map (λ (p : List ℕ × State). p.0) (k, s) es m)))
     by rest false q = rest
 
 -- ---- the shape of the list
@@ -130,12 +130,12 @@ split_sum f xs y zs =
 -- ---- what a state that was put changes
 
 -- each context was there, or is the one that was put
-pub put_member : (es : List (List ℕ × State)) (k : List ℕ) (s : State) (x : List ℕ × State) → Member x (put es k s) → Member x es ⊎ (x ≡ (k, s))
+pub put_member : (es : List (List ℕ × State)) (k : List ℕ) (s : State) (x : List ℕ × State) → OneOf x (put es k s) → OneOf x es ⊎ (x ≡ (k, s))
 put_member [] k s x (inl e) = inr e
 put_member [] k s x (inr m) = absurd m
 put_member (e ∷ es) k s x m = by (put_member es k s x) (same_key k e.0) refl m
   where
-    by : (Member x (put es k s) → Member x es ⊎ (x ≡ (k, s))) → (t : Bool) → same_key k e.0 ≡ t → Member x (cond t ((e.0, s) ∷ es) (e ∷ put es k s)) → Member x (e ∷ es) ⊎ (x ≡ (k, s))
+    by : (OneOf x (put es k s) → OneOf x es ⊎ (x ≡ (k, s))) → (t : Bool) → same_key k e.0 ≡ t → OneOf x (cond t ((e.0, s) ∷ es) (e ∷ put es k s)) → OneOf x (e ∷ es) ⊎ (x ≡ (k, s))
     by rest true q (inl i) = inr (i ∙ (λ j. (sym (same_key-true k e.0 q) j, s)))
     by rest true q (inr i) = inl (inr i)
     by rest false q (inl i) = inl (inl i)
@@ -170,12 +170,12 @@ module _ (es : List (List ℕ × State)) (k : List ℕ) (s : State) where
       ap keys_of (w.puts s) ∙ map-append f w.front ((k, s) ∷ w.back) ∙ sym (map-append f w.front ((k, b) ∷ w.back)) ∙ sym (ap keys_of w.is)
 
   -- the keys stay distinct
-  pub put_apart : IsApart (keys_of es) → IsApart (keys_of (put es k s))
+  pub put_apart : HasNoRepeats (keys_of es) → HasNoRepeats (keys_of (put es k s))
   put_apart a = by (state_at es k) refl
     where
-      by : (o : Option State) → state_at es k ≡ o → IsApart (keys_of (put es k s))
-      by (Some b) h = subst IsApart (sym (put_keys b h)) a
-      by None h = subst IsApart (sym (ap keys_of (put_new es k s h) ∙ map-append (λ (e : List ℕ × State). e.0) es ((k, s) ∷ []))) (apart_more (keys_of es) k a (none_has es k h))
+      by : (o : Option State) → state_at es k ≡ o → HasNoRepeats (keys_of (put es k s))
+      by (Some b) h = subst HasNoRepeats (sym (put_keys b h)) a
+      by None h = subst HasNoRepeats (sym (ap keys_of (put_new es k s h) ∙ map-append (λ (e : List ℕ × State). e.0) es ((k, s) ∷ []))) (apart_more (keys_of es) k a (none_has es k h))
 
   -- how many contexts there are
   pub put_length : (b : State) → state_at es k ≡ Some b → length (put es k s) ≡ length es

@@ -2,7 +2,7 @@
 use Rattle.std.proofs.Common.{◌≡◌, ◌==◌, ◌&&◌, ℕ, true, List, [], refl, sym, subst, eqb-true}
 use Rattle.std.specs.Cmp.Lexicographic.{same_text}
 use Rattle.std.proofs.lemmas.Bool.{and_parts}
-use Rattle.cd_base.specs.Lists.{Member}
+use Rattle.cd_base.specs.Lists.{OneOf}
 use Rattle.cd_base.specs.Normal.{Under}
 use Rattle.cd_base.specs.declared.normal.Normal.{Normal}
 use Rattle.cd_base.specs.declared.normal.Triple.{Triple}
@@ -30,7 +30,7 @@ linked s k r h =
     let ek : k ≡ w.0.key = same_text k w.0.key (sym p.0) in
     let er : r ≡ w.0.role = eqb-true r w.0.role p.1 in
     let e : w.0 ≡ record { key = k; role = r } = λ i. record { key = sym ek i; role = sym er i } in
-    subst (λ z. Member z s.links) e w.1
+    subst (λ z. OneOf z s.links) e w.1
 
 backed : (s : State) (r : ℕ) (k : List ℕ) (a : ℕ) → has_fact s (Back r k a) ≡ true → IsBack s.backs r k a
 backed s r k a h =
@@ -41,7 +41,7 @@ backed s r k a h =
     let ek : k ≡ w.0.key = same_text k w.0.key (sym q.0) in
     let ea : a ≡ w.0.atom = eqb-true a w.0.atom q.1 in
     let e : w.0 ≡ record { role = r; key = k; atom = a } = λ i. record { role = sym er i; key = sym ek i; atom = sym ea i } in
-    subst (λ z. Member z s.backs) e w.1
+    subst (λ z. OneOf z s.backs) e w.1
 
 dead : (s : State) (r : ℕ) (k : List ℕ) → has_fact s (Dead r k) ≡ true → IsDead s.deads r k
 dead s r k h =
@@ -50,35 +50,35 @@ dead s r k h =
     let er : r ≡ w.0.role = eqb-true r w.0.role p.0 in
     let ek : k ≡ w.0.key = same_text k w.0.key (sym p.1) in
     let e : w.0 ≡ record { role = r; key = k } = λ i. record { role = sym er i; key = sym ek i } in
-    subst (λ z. Member z s.deads) e w.1
+    subst (λ z. OneOf z s.deads) e w.1
 
 module _ (n : Normal) (keys : List (List ℕ)) (state : List ℕ → State) (closed : Closed n keys state) where
   abbrev live : List ℕ → List (List Elem)
   live k = live_of (state k)
 
   -- the context of an eligible existential is there, and has the link
-  link_had : (h : List ℕ) → Member h keys → (c : List Elem) → Member c (live h) → (r : ℕ) (k : List ℕ) → Eligible n (Exist r k) c → Member k keys × IsLinked (state k) h r
+  link_had : (h : List ℕ) → OneOf h keys → (c : List Elem) → OneOf c (live h) → (r : ℕ) (k : List ℕ) → Eligible n (Exist r k) c → OneOf k keys × IsLinked (state k) h r
   link_had h m c w r k e =
       let l = closed.had h m (record { key = k; fact = Link (state h).key r }) (owes_link r k c w e refl) in
       (l.0, linked (state k) h r (subst (λ z. has_fact (state k) (Link z r) ≡ true) (closed.own h m) l.1))
 
   abbrev Wide : List ℕ → List Elem → Type 0
-  Wide h d = Concludes n h (λ c. Member c (live h)) (λ r k a. Member k keys × ((c : List Elem) × Member c (live k) × Eligible n (Plain a) c)) (λ r k. Member k keys × Member [] (live k)) d
+  Wide h d = Concludes n h (λ c. OneOf c (live h)) (λ r k a. OneOf k keys × ((c : List Elem) × OneOf c (live k) × Eligible n (Plain a) c)) (λ r k. OneOf k keys × OneOf [] (live k)) d
 
-  back_had : (h : List ℕ) → Member h keys → (c : List Elem) → Member c (live h) → (r : ℕ) (k : List ℕ) → Eligible n (Exist r k) c → (b : List Elem) → Member b (live k)
-      → (t : Triple) → Eligible n (Plain t.atom) b → Member t n.n3 → Under n.n5 r t.role → IsBack (state h).backs r k t.atom
+  back_had : (h : List ℕ) → OneOf h keys → (c : List Elem) → OneOf c (live h) → (r : ℕ) (k : List ℕ) → Eligible n (Exist r k) c → (b : List Elem) → OneOf b (live k)
+      → (t : Triple) → Eligible n (Plain t.atom) b → OneOf t n.n3 → Under n.n5 r t.role → IsBack (state h).backs r k t.atom
   back_had h m c w r k e b mb t eb tm u =
       let l = link_had h m c w r k e in
       let f = closed.had k l.0 (record { key = h; fact = Back r (state k).key t.atom }) (owes_back h r b t l.1 mb eb tm u refl) in
       backed (state h) r k t.atom (subst (λ z. has_fact (state h) (Back r z t.atom) ≡ true) (closed.own k l.0) f.1)
 
-  dead_had : (h : List ℕ) → Member h keys → (c : List Elem) → Member c (live h) → (r : ℕ) (k : List ℕ) → Eligible n (Exist r k) c → Member [] (live k) → IsDead (state h).deads r k
+  dead_had : (h : List ℕ) → OneOf h keys → (c : List Elem) → OneOf c (live h) → (r : ℕ) (k : List ℕ) → Eligible n (Exist r k) c → OneOf [] (live k) → IsDead (state h).deads r k
   dead_had h m c w r k e z =
       let l = link_had h m c w r k e in
       let f = closed.had k l.0 (record { key = h; fact = Dead r (state k).key }) (owes_dead h r l.1 z refl) in
       dead (state h) r k (subst (λ y. has_fact (state h) (Dead r y) ≡ true) (closed.own k l.0) f.1)
 
-  here : (h : List ℕ) → Member h keys → (d : List Elem) → Wide h d → ConcludesFrom n h (λ c. Member c (live h)) (state h).backs (state h).deads d
+  here : (h : List ℕ) → OneOf h keys → (d : List Elem) → Wide h d → ConcludesFrom n h (λ c. OneOf c (live h)) (state h).backs (state h).deads d
   here h m d (by_init a k s) = by_init a k s
   here h m d (by_neg a c w t k s) = by_neg a c w t k s
   here h m d (by_con x l k r s) = by_con x l k r s
@@ -89,7 +89,7 @@ module _ (n : Normal) (keys : List (List ℕ)) (state : List ℕ → State) (clo
 
   saturated : Saturated n keys live
   saturated = record {
-    closed = λ h m d q. closed.locally h m d (subst (λ z. ConcludesFrom n z (λ c. Member c (live h)) (state h).backs (state h).deads d) (sym (closed.own h m)) (here h m d q));
+    closed = λ h m d q. closed.locally h m d (subst (λ z. ConcludesFrom n z (λ c. OneOf c (live h)) (state h).backs (state h).deads d) (sym (closed.own h m)) (here h m d q));
     reached = λ h m c w r k e. (link_had h m c w r k e).0;
   }
 

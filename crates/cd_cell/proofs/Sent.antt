@@ -4,7 +4,7 @@ use Rattle.std.proofs.Math.Seq.{drop-append_seam}
 use Rattle.std.proofs.lemmas.List.{append-nil, map-append}
 use Rattle.cd_actor.specs.Sends.{sent}
 use Rattle.cd_base.proofs.Members.{member_left, member_map, map_member}
-use Rattle.cd_base.specs.Lists.{Member, IsApart}
+use Rattle.cd_base.specs.Lists.{OneOf, HasNoRepeats}
 use Rattle.cd_context.specs.declared.facts.Note.{Note}
 use Rattle.cd_cell.specs.Cells.{place_of}
 use Rattle.cd_cell.specs.Sending.{SendsNotes}
@@ -31,14 +31,14 @@ sending_goes cells notes rest others out between new_out p note e place put g = 
       ∙ ap (λ (q : ℕ). out ++ (map (addressed cells) g.done ++ (q, note) ∷ [])) place ∙ ap (λ (l : List (ℕ × Note)). out ++ l) (sym (map-append (addressed cells) g.done (note ∷ [])));
 }
 
-apart_left : {X : Type 0} (xs ys : List X) → IsApart (xs ++ ys) → IsApart xs
+apart_left : {X : Type 0} (xs ys : List X) → HasNoRepeats (xs ++ ys) → HasNoRepeats xs
 apart_left [] ys a = tt
 apart_left (x ∷ xs) ys a = (λ m. a.0 (member_left x xs ys m), apart_left xs ys a.1)
 
-apart_addressed : (cells : ℕ) (notes : List Note) → IsApart notes → IsApart (map (addressed cells) notes)
+apart_addressed : (cells : ℕ) (notes : List Note) → HasNoRepeats notes → HasNoRepeats (map (addressed cells) notes)
 apart_addressed cells [] a = tt
 apart_addressed cells (x ∷ xs) a = (
-  λ m. let w = map_member (addressed cells) (addressed cells x) xs m in a.0 (subst (λ (y : Note). Member y xs) (sym (ap (λ (p : ℕ × Note). p.1) w.2)) w.1),
+  λ m. let w = map_member (addressed cells) (addressed cells x) xs m in a.0 (subst (λ (y : Note). OneOf y xs) (sym (ap (λ (p : ℕ × Note). p.1) w.2)) w.1),
   apart_addressed cells xs a.1,
 )
 
@@ -48,13 +48,13 @@ sending_ends cells Done notes rest out new_out none g =
     let s : sent out new_out ≡ map (addressed cells) g.done = ap (drop (length out)) g.follows ∙ drop-append_seam out (map (addressed cells) g.done) in record {
       follows = g.follows ∙ ap (λ (l : List (ℕ × Note)). out ++ l) (sym s);
       only = λ p note m.
-          let w = map_member (addressed cells) (p, note) g.done (subst (λ (l : List (ℕ × Note)). Member (p, note) l) s m) in
+          let w = map_member (addressed cells) (p, note) g.done (subst (λ (l : List (ℕ × Note)). OneOf (p, note) l) s m) in
           let same : note ≡ w.0 = ap (λ (x : ℕ × Note). x.1) w.2 in (
-            subst (λ (l : List Note). Member note l) (sym g.is) (subst (λ (y : Note). Member y (g.done ++ rest)) (sym same) (member_left w.0 g.done rest w.1)),
+            subst (λ (l : List Note). OneOf note l) (sym g.is) (subst (λ (y : Note). OneOf y (g.done ++ rest)) (sym same) (member_left w.0 g.done rest w.1)),
             ap (λ (x : ℕ × Note). x.0) w.2 ∙ ap (λ (y : Note). place_of cells y.key) (sym same),
           );
-      once = λ a. subst IsApart (sym s) (apart_addressed cells g.done (apart_left g.done rest (subst IsApart g.is a)));
+      once = λ a. subst HasNoRepeats (sym s) (apart_addressed cells g.done (apart_left g.done rest (subst HasNoRepeats g.is a)));
       every = λ did note m.
           let all : notes ≡ g.done = g.is ∙ ap (λ (l : List Note). g.done ++ l) (none did) ∙ append-nil g.done in
-          subst (λ (l : List (ℕ × Note)). Member (addressed cells note) l) (sym s) (member_map (addressed cells) note g.done (subst (λ (l : List Note). Member note l) all m));
+          subst (λ (l : List (ℕ × Note)). OneOf (addressed cells note) l) (sym s) (member_map (addressed cells) note g.done (subst (λ (l : List Note). OneOf note l) all m));
     }

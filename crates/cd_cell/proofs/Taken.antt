@@ -2,7 +2,7 @@
 use Rattle.std.proofs.Common.{◌≡◌, ◌⊎◌, ◌<◌, true, false, List, [], ◌++◌, Some, None, refl, sym, ap, subst, ◌∙◌, inl, inr}
 use Rattle.std.proofs.lemmas.Option.{none-some, same_Some}
 use Rattle.cd_base.proofs.Members.{member_left, member_right, member_cases}
-use Rattle.cd_base.specs.Lists.{Member}
+use Rattle.cd_base.specs.Lists.{OneOf}
 use Rattle.cd_base.specs.declared.normal.Normal.{Normal}
 use Rattle.cd_context.proofs.Justify.{owed_justified}
 use Rattle.cd_context.specs.Calls.{Sends}
@@ -23,8 +23,8 @@ takes n b s fact out notes empty j closed had risen a =
       closed = closed;
       had = had;
       risen = λ d e. subst (λ (w : State). has_fact w fact ≡ false → (count w < count s) ⊎ (count s ≡ last)) (same_Some b d e) risen;
-      lawful = λ note m. owed_justified n s j note (a.only note (subst (λ w. Member note w) all m));
-      every = λ note o. elim (a.every tt note o) [ inl w ↦ inl (b, refl, w) | inr m ↦ inr (subst (λ w. Member note w) (sym all) m) ];
+      lawful = λ note m. owed_justified n s j note (a.only note (subst (λ w. OneOf note w) all m));
+      every = λ note o. elim (a.every tt note o) [ inl w ↦ inl (b, refl, w) | inr m ↦ inr (subst (λ w. OneOf note w) (sym all) m) ];
     }
 
 -- a context that has just begun takes the fact
@@ -35,11 +35,11 @@ begins n b s fact out between notes empty i j closed had a1 a2 =
       closed = closed;
       had = had;
       risen = λ d e. absurd (none-some d e);
-      lawful = λ note m. elim (member_cases note a1.added a2.added (subst (λ w. Member note w) all m)) [
+      lawful = λ note m. elim (member_cases note a1.added a2.added (subst (λ w. OneOf note w) all m)) [
         | inl p ↦ owed_justified n b i note (a1.only note p)
         | inr p ↦ owed_justified n s j note (a2.only note p)
       ];
-      every = λ note o. inr (subst (λ w. Member note w) (sym all) (elim (a2.every tt note o) [
+      every = λ note o. inr (subst (λ w. OneOf note w) (sym all) (elim (a2.every tt note o) [
         | inl w ↦ elim (a1.every tt note w) [ inl z ↦ absurd z | inr m ↦ member_left note a1.added a2.added m ]
         | inr m ↦ member_right note a1.added a2.added m
       ]));

@@ -1,7 +1,7 @@
 -- Contexts that were told a fact.
 use Rattle.std.proofs.Common.{◌≡◌, ◌≤◌, ◌+◌, ◌-◌, ℕ, min, List, Option, Some, None, Result, Ok, Err, OnErr, refl, sym, subst, ◌∙◌, inl, inr, arith}
 use Rattle.std.specs.Map.{lookup, set_value}
-use Rattle.cd_base.specs.Lists.{IsApart}
+use Rattle.cd_base.specs.Lists.{HasNoRepeats}
 use Rattle.cd_base.specs.declared.normal.Normal.{Normal}
 use Rattle.cd_context.specs.Calls.{Grows}
 use Rattle.cd_base.specs.Counts.{last}
@@ -11,7 +11,7 @@ use Rattle.cd_context.specs.State.{State}
 use Rattle.cd_context.specs.declared.facts.Fact.{Fact}
 use Rattle.cd_context.specs.declared.facts.Note.{Note}
 use Rattle.cd_cell.specs.Cells.{state_at, facts_of}
-use Rattle.cd_cell.specs.Telling.{put, AreClosed, IsNext, Puts, Takes, Tells}
+use Rattle.cd_cell.specs.Telling.{put, AreClosedContexts, IsNext, Puts, Takes, Tells}
 use Rattle.cd_cell.proofs.Puts.{keys_of, state_at_is, state_member, there, put_apart, put_facts, new_facts}
 
 -- what holds whatever the answer
@@ -21,7 +21,7 @@ at_err (Err y) Q q = q
 
 -- what the struct of the contexts keeps
 abbrev pub IsKept : List (List ℕ × State) → ℕ → Type 0
-IsKept es sum = (sum ≡ facts_of es) × IsApart (keys_of es)
+IsKept es sum = (sum ≡ facts_of es) × HasNoRepeats (keys_of es)
 
 module _ (n : Normal) (old : List (List ℕ × State)) (key : List ℕ) (new : List (List ℕ × State)) (s : State) where
   -- a context that begins
@@ -41,7 +41,7 @@ module _ (n : Normal) (old : List (List ℕ × State)) (key : List ℕ) (new : L
     here = state_at_is old key ∙ sym found
 
     -- it keeps what each context keeps
-    module _ (closed : AreClosed n old) where
+    module _ (closed : AreClosedContexts n old) where
       pub here_own : b.key ≡ key
       here_own = closed.own key b (state_member old key b here)
 
@@ -66,7 +66,7 @@ module _ (n : Normal) (old : List (List ℕ × State)) (key : List ℕ) (new : L
       kept sum gained k g =
           subst (λ (es : List (List ℕ × State)). IsKept es gained) (sym is_put) (put_facts old key s b here more sum gained k.0 g, put_apart old key s k.1)
 
-      module _ (closed : AreClosed n old) where
+      module _ (closed : AreClosedContexts n old) where
         pub puts : Puts n old key new
         puts = record {
           state = s;

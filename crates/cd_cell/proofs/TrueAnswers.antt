@@ -8,12 +8,12 @@ use Rattle.cd_model.specs.Exactness.{Exact}
 use Rattle.cd_model.specs.TrueAnswers.{IsTrueAnswer}
 use Rattle.cd_model.proofs.TrueAnswers.{one_true_answer}
 use Rattle.cd_cell.specs.Cells.{CellState}
-use Rattle.cd_cell.specs.Subsumers.{HasContext, IsAnswerOf, IsSubsumers}
+use Rattle.cd_cell.specs.Subsumers.{HasContext, IsSubsumersOf, IsSubsumersIn}
 use Rattle.cd_cell.specs.TrueAnswers.{IsExactIn, SameAnswers}
 use Rattle.cd_cell.proofs.CellAnswers.{cell_exactness}
 
 -- the answer of live clauses that are exact is true
-pub true_of_exact : (n : Normal) (a : ℕ) (live : List (List Elem)) (answer : Answer) → IsAnswerOf n live answer → Exact n a live → IsTrueAnswer n a answer
+pub true_of_exact : (n : Normal) (a : ℕ) (live : List (List Elem)) (answer : Answer) → IsSubsumersOf n live answer → Exact n a live → IsTrueAnswer n a answer
 true_of_exact n a live Unsatisfiable h e = e.empty_none h
 true_of_exact n a live (Of atoms) h e = (
   λ none. h.0 (e.none_empty none),
@@ -22,7 +22,7 @@ true_of_exact n a live (Of atoms) h e = (
 )
 
 -- the answer of a context of closed cells is true
-pub exact_answer : (c : CellState) (a : ℕ) (answer : Answer) → HasContext c.contexts a → IsSubsumers c.normal c.contexts a answer → IsExactIn c a answer
+pub exact_answer : (c : CellState) (a : ℕ) (answer : Answer) → HasContext c.contexts a → IsSubsumersIn c.normal c.contexts a answer → IsExactIn c a answer
 exact_answer c a answer here is below closure roles cells closed i at =
     true_of_exact c.normal a _ answer (is here.0 here.1) (cell_exactness c.normal below closure roles cells closed i c at a here.0 here.1)
 

@@ -3,7 +3,7 @@ use Rattle.std.specs.Prelude.{◌≡◌, ℕ, ◌%◌, ◌<◌, Bool, false, min
 use Rattle.std.specs.List.{sum_by}
 use Rattle.std.specs.Option.{option_map_or}
 use Rattle.cd_base.specs.Keys.{folded}
-use Rattle.cd_base.specs.Lists.{Member, IsApart}
+use Rattle.cd_base.specs.Lists.{OneOf, HasNoRepeats}
 use Rattle.cd_base.specs.declared.normal.Normal.{Normal}
 use Rattle.cd_clause.specs.Derivations.{Reachable}
 use Rattle.cd_base.specs.Counts.{last}
@@ -47,23 +47,23 @@ pub record IsLawfulNote (n : Normal) (cells p : ℕ) (note : Note) : Type 0 wher
 pub record OwesFrom (n : Normal) (cells : ℕ) (contexts : List (List ℕ × State)) (p : ℕ) (note : Note) : Type 0 where
   pub key : List ℕ
   pub state : State
-  pub here : Member (key, state) contexts
+  pub here : OneOf (key, state) contexts
   pub owes : Owes n state note
   pub goes : p ≡ place_of cells note.key
 
 -- what a cell keeps at every moment: its contexts are those of distinct keys of its place, and keep what a context keeps
 pub record IsCell (n : Normal) (number cells : ℕ) (contexts : List (List ℕ × State)) : Type 0 where
   pub below : number < cells
-  pub apart : IsApart (map (λ e. e.0) contexts)
-  pub own : (h : List ℕ) (s : State) → Member (h, s) contexts → s.key ≡ h
-  pub placed : (h : List ℕ) (s : State) → Member (h, s) contexts → place_of cells h ≡ number
-  pub context : (h : List ℕ) (s : State) → Member (h, s) contexts → IsContext n s
+  pub apart : HasNoRepeats (map (λ e. e.0) contexts)
+  pub own : (h : List ℕ) (s : State) → OneOf (h, s) contexts → s.key ≡ h
+  pub placed : (h : List ℕ) (s : State) → OneOf (h, s) contexts → place_of cells h ≡ number
+  pub context : (h : List ℕ) (s : State) → OneOf (h, s) contexts → IsContext n s
 
 -- no delivery has wanted for memory, and each context is closed
 pub record IsWhole (c : CellState) : Type 0 where
   pub stands : c.failed ≡ false
   pub cell : IsCell c.normal c.number c.cells c.contexts
-  pub closed : (h : List ℕ) (s : State) → Member (h, s) c.contexts → ClosedLocally c.normal s
+  pub closed : (h : List ℕ) (s : State) → OneOf (h, s) c.contexts → ClosedLocally c.normal s
 
 -- how many contexts; a count that would pass the last u64 stands at it
 abbrev pub contexts_of : List (List ℕ × State) → ℕ
@@ -91,4 +91,4 @@ meaning = record {
 -- what a cell's value keeps at every moment: each of its contexts what a context keeps, and closed while no delivery has wanted for memory
 pub record IsSound (c : CellState) : Type 0 where
   pub cell : IsCell c.normal c.number c.cells c.contexts
-  pub closed : c.failed ≡ false → (h : List ℕ) (s : State) → Member (h, s) c.contexts → ClosedLocally c.normal s
+  pub closed : c.failed ≡ false → (h : List ℕ) (s : State) → OneOf (h, s) c.contexts → ClosedLocally c.normal s

@@ -1,7 +1,7 @@
 -- What the counts of cells count.
 use Rattle.std.specs.Prelude.{◌≡◌, ℕ, ◌≤◌, List, map, length}
 use Rattle.std.specs.List.{sum_by}
-use Rattle.cd_base.specs.Lists.{Member, IsApart}
+use Rattle.cd_base.specs.Lists.{OneOf, HasNoRepeats}
 use Rattle.cd_base.specs.declared.normal.Normal.{Normal}
 use Rattle.cd_actor.specs.Cells.{At, AreCells, total}
 use Rattle.cd_context.specs.Facts.{count}
@@ -11,8 +11,8 @@ use Rattle.cd_cell.specs.Cells.{CellState, contexts_of, facts_of, meaning}
 
 -- contexts of distinct keys, each of which can be reached, with facts that are justified and clauses that are concluded in turn
 pub record AreContexts (n : Normal) (states : List State) : Type 0 where
-  pub apart : IsApart (map (λ (s : State). s.key) states)
-  pub each : (s : State) → Member s states → IsContext n s
+  pub apart : HasNoRepeats (map (λ (s : State). s.key) states)
+  pub each : (s : State) → OneOf s states → IsContext n s
 
 -- there are so many such contexts
 abbrev pub HasContexts : Normal → ℕ → Type 0

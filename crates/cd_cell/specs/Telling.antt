@@ -1,6 +1,6 @@
 -- What telling a note does to contexts, and what they owe.
 use Rattle.std.specs.Prelude.{◌≡◌, ◌<◌, ◌⊎◌, ℕ, true, false, List, Option, Some}
-use Rattle.cd_base.specs.Lists.{Member, IsApart}
+use Rattle.cd_base.specs.Lists.{OneOf, HasNoRepeats}
 use Rattle.cd_base.specs.declared.normal.Normal.{Normal}
 use Rattle.cd_clause.specs.Derivations.{Reachable}
 use Rattle.cd_context.specs.Calls.{Grows}
@@ -20,13 +20,13 @@ put contexts key s = insert_entry same_key contexts key s
 
 -- each context has its key
 abbrev pub AreOwn : List (List ℕ × State) → Type 0
-AreOwn contexts = (h : List ℕ) (s : State) → Member (h, s) contexts → s.key ≡ h
+AreOwn contexts = (h : List ℕ) (s : State) → OneOf (h, s) contexts → s.key ≡ h
 
 -- each context has its key, keeps what a context keeps, and is closed
-pub record AreClosed (n : Normal) (contexts : List (List ℕ × State)) : Type 0 where
+pub record AreClosedContexts (n : Normal) (contexts : List (List ℕ × State)) : Type 0 where
   pub own : AreOwn contexts
-  pub context : (h : List ℕ) (s : State) → Member (h, s) contexts → IsContext n s
-  pub closed : (h : List ℕ) (s : State) → Member (h, s) contexts → ClosedLocally n s
+  pub context : (h : List ℕ) (s : State) → OneOf (h, s) contexts → IsContext n s
+  pub closed : (h : List ℕ) (s : State) → OneOf (h, s) contexts → ClosedLocally n s
 
 -- the state is one of a context of the key, with all that was there before
 pub record IsNext (n : Normal) (before : Option State) (key : List ℕ) (s : State) : Type 0 where
@@ -40,8 +40,8 @@ pub record Takes (n : Normal) (before : Option State) (fact : Fact) (s : State) 
   pub closed : ClosedLocally n s
   pub had : has_fact s fact ≡ true
   pub risen : (b : State) → before ≡ Some b → has_fact b fact ≡ false → (count b < count s) ⊎ (count s ≡ last)
-  pub lawful : (note : Note) → Member note notes → Reachable n note.key × Justified n note.key note.fact
-  pub every : (note : Note) → Owes n s note → ((b : State) × (before ≡ Some b) × Owes n b note) ⊎ Member note notes
+  pub lawful : (note : Note) → OneOf note notes → Reachable n note.key × Justified n note.key note.fact
+  pub every : (note : Note) → Owes n s note → ((b : State) × (before ≡ Some b) × Owes n b note) ⊎ OneOf note notes
 
 -- the context of the key has come to a state, with all that was there before
 pub record Puts (n : Normal) (old : List (List ℕ × State)) (key : List ℕ) (new : List (List ℕ × State)) : Type 0 where
@@ -56,6 +56,6 @@ pub record Tells (n : Normal) (old : List (List ℕ × State)) (key : List ℕ) 
 
 -- the notes are those that one of the contexts owes, each once
 pub record AreOwed (n : Normal) (contexts : List (List ℕ × State)) (notes : List Note) : Type 0 where
-  pub only : (note : Note) → Member note notes → (h : List ℕ) × (s : State) × Member (h, s) contexts × Owes n s note
-  pub once : IsApart notes
-  pub every : (h : List ℕ) (s : State) → Member (h, s) contexts → (note : Note) → Owes n s note → Member note notes
+  pub only : (note : Note) → OneOf note notes → (h : List ℕ) × (s : State) × OneOf (h, s) contexts × Owes n s note
+  pub once : HasNoRepeats notes
+  pub every : (h : List ℕ) (s : State) → OneOf (h, s) contexts → (note : Note) → Owes n s note → OneOf note notes

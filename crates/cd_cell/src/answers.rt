@@ -1,7 +1,7 @@
 //! What a context says of its class.
 ghost use Rattle.std.specs.Prelude.{◌≡◌, filter, IfOk};
 ghost use Rattle.cd_base.specs.Keys.{is_named};
-ghost use Rattle.cd_cell.specs.Subsumers.{IsAnswerOf};
+ghost use Rattle.cd_cell.specs.Subsumers.{IsSubsumersOf};
 ghost use Rattle.cd_context.specs.State.{live_of};
 
 use cd_base::{Answer, Atom, Memory, Normal, Seq};
@@ -11,7 +11,7 @@ use std::alloc::Global;
 
 /// The answer that the live clauses of the context give. Linear in them, and `n log n` in the answer.
 pub(crate) fn answer_of(alloc: Global, index: &Index, context: &Context) -> Result<Answer, Memory>
-    ensures { IfOk result (λ answer. IsAnswerOf index.now.normal (live_of context.now) answer) }
+    ensures { IfOk result (λ answer. IsSubsumersOf index.now.normal (live_of context.now) answer) }
 {
     if context.has_empty() {
         return Ok(Answer::Unsatisfiable);

@@ -1,12 +1,12 @@
 //! Cells.
 ghost use Rattle.std.specs.Prelude.{◌≡◌, ◌<◌, ◌++◌, ◌↔◌, ℕ, [], true, IfOk, OnOk, false, IsTrue};
 ghost use Rattle.cd_base.specs.Keys.{is_named};
-ghost use Rattle.cd_base.specs.Lists.{Member, IsApart};
+ghost use Rattle.cd_base.specs.Lists.{OneOf, HasNoRepeats};
 ghost use Rattle.cd_actor.specs.Meaning.{Keeps, IsSame, Delivers};
 ghost use Rattle.cd_actor.specs.Sends.{sent, Sends};
 ghost use Rattle.cd_cell.specs.Cells.{meaning, IsWhole, IsSound};
 ghost use Rattle.cd_cell.specs.Lawful.{same_places, same_lawful, owed_lawful};
-ghost use Rattle.cd_cell.specs.Subsumers.{HasContext, IsSubsumers};
+ghost use Rattle.cd_cell.specs.Subsumers.{HasContext, IsSubsumersIn};
 ghost use Rattle.cd_cell.specs.TrueAnswers.{IsExactIn};
 ghost use Rattle.cd_context.specs.declared.facts.Note.{Note};
 
@@ -74,7 +74,7 @@ impl<'a> Cell<'a> {
     pub fn subsumers(&self, alloc: Global, atom: Atom) -> Result<Answer, Memory>
         requires named { is_named self.now.normal atom ≡ true }
         requires here { HasContext self.now.contexts atom }
-        ensures answer { IfOk result (λ answer. IsSubsumers self.now.normal self.now.contexts atom answer) }
+        ensures answer { IfOk result (λ answer. IsSubsumersIn self.now.normal self.now.contexts atom answer) }
         ensures exact { IfOk result (IsExactIn self.now atom) }
     {
         match self.contexts.get(&Key::single(alloc, atom)) {

@@ -7,7 +7,7 @@ ghost use Rattle.cd_base.specs.Counts.{last};
 ghost use Rattle.cd_context.specs.Facts.{has_fact, count};
 ghost use Rattle.cd_context.specs.State.{State};
 ghost use Rattle.cd_cell.specs.Cells.{has_note, contexts_of, facts_of, state_at};
-ghost use Rattle.cd_cell.specs.Telling.{AreClosed, AreOwed, AreOwn, IsNext, Puts, Takes, Tells};
+ghost use Rattle.cd_cell.specs.Telling.{AreClosedContexts, AreOwed, AreOwn, IsNext, Puts, Takes, Tells};
 
 use cd_base::{Key, Memory};
 use cd_context::{Context, Fact, Note};
@@ -25,7 +25,7 @@ pub(crate) struct Contexts {
 
 impl Model for Contexts {
     ghost use Rattle.std.specs.Prelude.{ℕ, List, ◌≡◌, map};
-    ghost use Rattle.cd_base.specs.Lists.{IsApart};
+    ghost use Rattle.cd_base.specs.Lists.{HasNoRepeats};
     ghost use Rattle.cd_context.specs.State.{State};
     ghost use Rattle.cd_cell.specs.Cells.{facts_of};
 
@@ -33,7 +33,7 @@ impl Model for Contexts {
 
     ghost view = { λ c. c.by_key.entries };
 
-    ghost invariant = { λ c. (c.facts ≡ facts_of c.by_key.entries) × IsApart (map (λ e. e.0) c.by_key.entries) };
+    ghost invariant = { λ c. (c.facts ≡ facts_of c.by_key.entries) × HasNoRepeats (map (λ e. e.0) c.by_key.entries) };
 }
 
 impl Contexts {
@@ -103,7 +103,7 @@ impl Contexts {
         key: &Key,
         fact: Fact,
     ) -> Result<Vec<Note>, Memory>
-        requires closed { AreClosed index.now.normal self.old }
+        requires closed { AreClosedContexts index.now.normal self.old }
         requires reachable { Reachable index.now.normal key.now }
         requires justified { Justified index.now.normal key.now fact }
         requires fresh { (s : State) → state_at self.old key.now ≡ Some s → has_fact s fact ≡ false }

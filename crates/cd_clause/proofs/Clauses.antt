@@ -2,7 +2,7 @@
 use Rattle.std.proofs.Common.{◌≡◌, ◌==◌, ◌↔◌, ◌-◌, ◌<◌, ℕ, zero, suc, Bool, true, false, List, [], ◌∷◌, ◌++◌, length, take, drop, refl, sym, ◌∙◌, ap, subst, inl, inr, arith}
 use Rattle.std.proofs.Math.Seq.{take-length}
 use Rattle.std.specs.List.{remove}
-use Rattle.cd_base.specs.Lists.{Member, Within, SameSet}
+use Rattle.cd_base.specs.Lists.{OneOf, Within, SameSet}
 use Rattle.cd_base.specs.Ascending.{Ascending, is_covered}
 use Rattle.cd_base.proofs.Ascending.{covered_within, within_covered}
 use Rattle.cd_base.proofs.Members.{member_left, member_right, member_cases}
@@ -51,7 +51,7 @@ halves all left right c d out e p q s = subst (SameSet out) (sym e) (
   λ x m. s.1 x (elim (member_cases x left right m) [ inl k ↦ member_left x c d (p.1 x k) | inr k ↦ member_right x c d (q.1 x k) ]),
 )
 
-member_remove : (z : Elem) (c : List Elem) (i : ℕ) → Member z (remove c i) → Member z c
+member_remove : (z : Elem) (c : List Elem) (i : ℕ) → OneOf z (remove c i) → OneOf z c
 member_remove z [] zero m = m
 member_remove z [] (suc i) m = m
 member_remove z (e ∷ c) zero m = inr m

@@ -1,6 +1,6 @@
 -- Derivations, what can be reached, and what a list of clauses has of one clause.
 use Rattle.std.specs.Prelude.{◌≡◌, ℕ, true, List, [], ◌∷◌}
-use Rattle.cd_base.specs.Lists.{Member, Within, SameSet}
+use Rattle.cd_base.specs.Lists.{OneOf, Within, SameSet}
 use Rattle.cd_base.specs.Keys.{plain, is_named}
 use Rattle.cd_base.specs.declared.normal.Normal.{Normal}
 use Rattle.cd_clause.specs.declared.elem.Elem.{Elem}
@@ -15,7 +15,7 @@ pub record Entry : Type 0 where
 
 -- the clause is listed for the context of the key
 abbrev pub Listed : List Entry → List ℕ → List Elem → Type 0
-Listed e k c = Member (record { key = k; clause = c }) e
+Listed e k c = OneOf (record { key = k; clause = c }) e
 
 -- a list in which each clause is the conclusion of a rule from the entries after it, so the newest stands first
 abbrev pub Derivation : Normal → List Entry → Type 0
@@ -39,8 +39,8 @@ HasDerived n k e = (c : List Elem) × Derived n k c × Eligible n e c
 
 -- a clause that is there is a subset of this one
 abbrev pub Redundant : List (List Elem) → List Elem → Type 0
-Redundant live d = (c : List Elem) × Member c live × Within c d
+Redundant live d = (c : List Elem) × OneOf c live × Within c d
 
 -- one of the live clauses is that of the atom alone
 abbrev pub IsSingle : List (List Elem) → ℕ → Type 0
-IsSingle live b = (c : List Elem) × Member c live × SameSet c (Plain b ∷ [])
+IsSingle live b = (c : List Elem) × OneOf c live × SameSet c (Plain b ∷ [])

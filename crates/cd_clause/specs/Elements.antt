@@ -1,6 +1,6 @@
 -- The elements of clauses: how they stand in a clause, and their order in the calculus.
 use Rattle.std.specs.Prelude.{◌≡◌, ℕ, ◌&&◌, not, Bool, true, false, cond, List, [], ◌∷◌, eqb}
-use Rattle.cd_base.specs.Lists.{Member}
+use Rattle.cd_base.specs.Lists.{OneOf}
 use Rattle.cd_base.specs.Keys.{is_named}
 use Rattle.cd_base.specs.declared.normal.Normal.{Normal}
 use Rattle.cd_clause.specs.Dictionary.{is_at_most, same_numbers}
@@ -24,8 +24,8 @@ rank n (Exist r k) = 2 ∷ r ∷ k
 
 -- the element is in the clause, and none of the clause is strictly greater
 pub record Eligible (n : Normal) (e : Elem) (c : List Elem) : Type 0 where
-  pub isin : Member e c
-  pub top : (f : Elem) → Member f c → is_at_most (rank n f) (rank n e) ≡ true
+  pub isin : OneOf e c
+  pub top : (f : Elem) → OneOf f c → is_at_most (rank n f) (rank n e) ≡ true
 
 -- whether they are the same element
 abbrev pub same_elem : Elem → Elem → Bool

@@ -1,7 +1,7 @@
 -- A context takes a fact.
 use Rattle.std.proofs.Common.{◌≡◌, ◌==◌, ◌&&◌, ◌∙◌, ◌⊎◌, Bool, true, false, ℕ, eqb-true, inl, inr, List, [], ◌∷◌, ◌++◌, length, filter, nat_lt, refl, sym, subst, arith}
 use Rattle.std.specs.List.{list_any}
-use Rattle.cd_base.specs.Lists.{Member, IsApart}
+use Rattle.cd_base.specs.Lists.{OneOf, HasNoRepeats}
 use Rattle.cd_base.specs.declared.normal.Normal.{Normal}
 use Rattle.cd_base.proofs.Members.{member_left, member_cases, any_by_member, any_member}
 use Rattle.std.proofs.lemmas.Bool.{and_from, and_parts, false≢true, eq-eqb}
@@ -28,20 +28,20 @@ use Rattle.cd_context.proofs.Sent.{sends_less, owed_after}
 use Rattle.cd_context.proofs.TakeUps.{none_waits}
 
 -- of facts that are justified, with one more that is
-each_with : {X : Type 0} (P : X → Type 0) (old new : List X) (f : X) → new ≡ old ++ f ∷ [] → ((x : X) → Member x old → P x) → P f → (x : X) → Member x new → P x
-each_with {X} P old new f e h p x m = elim (member_cases x old (f ∷ []) (subst (λ w. Member x w) e m)) [
+each_with : {X : Type 0} (P : X → Type 0) (old new : List X) (f : X) → new ≡ old ++ f ∷ [] → ((x : X) → OneOf x old → P x) → P f → (x : X) → OneOf x new → P x
+each_with {X} P old new f e h p x m = elim (member_cases x old (f ∷ []) (subst (λ w. OneOf x w) e m)) [
   | inl l ↦ h x l
   | inr l ↦ elim l [ inl q ↦ subst P (sym q) p | inr z ↦ absurd z ]
 ]
 
-pub joined : {X : Type 0} (old new : List X) (f : X) → new ≡ old ++ f ∷ [] → (x : X) → Member x old → Member x new
-joined old new f e x m = subst (λ w. Member x w) (sym e) (member_left x old (f ∷ []) m)
+pub joined : {X : Type 0} (old new : List X) (f : X) → new ≡ old ++ f ∷ [] → (x : X) → OneOf x old → OneOf x new
+joined old new f e x m = subst (λ w. OneOf x w) (sym e) (member_left x old (f ∷ []) m)
 
 -- of facts that stand once, with one more that is new
-once_with : {X : Type 0} (old new : List X) (f : X) → new ≡ old ++ f ∷ [] → IsApart old → (Member f old → ⊥) → IsApart new
-once_with {X} old new f e a fresh = subst IsApart (sym e) (apart_more old a fresh)
+once_with : {X : Type 0} (old new : List X) (f : X) → new ≡ old ++ f ∷ [] → HasNoRepeats old → (OneOf f old → ⊥) → HasNoRepeats new
+once_with {X} old new f e a fresh = subst HasNoRepeats (sym e) (apart_more old a fresh)
   where
-    apart_more : (xs : List X) → IsApart xs → (Member f xs → ⊥) → IsApart (xs ++ f ∷ [])
+    apart_more : (xs : List X) → HasNoRepeats xs → (OneOf f xs → ⊥) → HasNoRepeats (xs ++ f ∷ [])
     apart_more [] a h = (λ m. m, tt)
     apart_more (x ∷ xs) a h = (
       λ m. elim (member_cases x xs (f ∷ []) m) [ inl k ↦ a.0 k | inr k ↦ elim k [ inl q ↦ h (inl (sym q)) | inr z ↦ absurd z ] ],
@@ -52,16 +52,16 @@ same_self : (k : List ℕ) → same_key k k ≡ true
 same_self k = nat_list_eq_equiv.refl k
 
 -- a fact that is not had is not listed
-new_link : (s : State) (f : LinkFact) → has_fact s (Link f.key f.role) ≡ false → Member f s.links → ⊥
+new_link : (s : State) (f : LinkFact) → has_fact s (Link f.key f.role) ≡ false → OneOf f s.links → ⊥
 new_link s f h m = false≢true (sym h ∙ any_by_member (λ (g : LinkFact). same_key f.key g.key && f.role == g.role) s.links f m
     (and_from (same_key f.key f.key) (f.role == f.role) (same_self f.key) (eq-eqb f.role f.role refl)))
 
-new_back : (s : State) (f : BackFact) → has_fact s (Back f.role f.key f.atom) ≡ false → Member f s.backs → ⊥
+new_back : (s : State) (f : BackFact) → has_fact s (Back f.role f.key f.atom) ≡ false → OneOf f s.backs → ⊥
 new_back s f h m = false≢true (sym h ∙ any_by_member (λ (g : BackFact). f.role == g.role && (same_key f.key g.key && f.atom == g.atom)) s.backs f m
     (and_from (f.role == f.role) (same_key f.key f.key && f.atom == f.atom) (eq-eqb f.role f.role refl)
     (and_from (same_key f.key f.key) (f.atom == f.atom) (same_self f.key) (eq-eqb f.atom f.atom refl))))
 
-new_dead : (s : State) (f : DeadFact) → has_fact s (Dead f.role f.key) ≡ false → Member f s.deads → ⊥
+new_dead : (s : State) (f : DeadFact) → has_fact s (Dead f.role f.key) ≡ false → OneOf f s.deads → ⊥
 new_dead s f h m = false≢true (sym h ∙ any_by_member (λ (g : DeadFact). f.role == g.role && same_key f.key g.key) s.deads f m
     (and_from (f.role == f.role) (same_key f.key f.key) (eq-eqb f.role f.role refl) (same_self f.key)))
 
@@ -69,7 +69,7 @@ new_dead s f h m = false≢true (sym h ∙ any_by_member (λ (g : DeadFact). f.r
 any_with : {X : Type 0} (p : X → Bool) (old new : List X) (f : X) → new ≡ old ++ f ∷ [] → list_any p new ≡ true → (list_any p old ≡ true) ⊎ (p f ≡ true)
 any_with p old new f e h =
     let m = any_member p new h in
-    elim (member_cases m.0 old (f ∷ []) (subst (λ w. Member m.0 w) e m.1)) [
+    elim (member_cases m.0 old (f ∷ []) (subst (λ w. OneOf m.0 w) e m.1)) [
       | inl l ↦ inl (any_by_member p old m.0 l m.2)
       | inr l ↦ elim l [ inl q ↦ inr (subst (λ x. p x ≡ true) q m.2) | inr z ↦ absurd z ]
     ]

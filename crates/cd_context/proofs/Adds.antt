@@ -1,7 +1,7 @@
 -- One conclusion is added.
 use Rattle.std.proofs.Common.{◌≡◌, ℕ, ◌+◌, ◌<◌, ◌≤◌, inl, inr, List, [], ◌∷◌, ◌++◌, length, refl, ap, sym, ◌∙◌, subst, arith}
 use Rattle.std.proofs.lemmas.List.{append_assoc, append-nil, length-append}
-use Rattle.cd_base.specs.Lists.{Member}
+use Rattle.cd_base.specs.Lists.{OneOf}
 use Rattle.cd_base.specs.declared.normal.Normal.{Normal}
 use Rattle.cd_base.proofs.Members.{member_get}
 use Rattle.cd_clause.specs.declared.elem.Elem.{Elem}
@@ -18,7 +18,7 @@ use Rattle.cd_context.proofs.Waits.{working_new, takes_up_new, concluded_more, i
 -- clauses are stored after those of before, and of their numbers, those that are live were live
 pub record Continues (old new : List (List Elem) × List ℕ) : Type 0 where
   pub follows : Follows old.0 new.0
-  pub survivors : (k : ℕ) → Member k new.1 → k < length old.0 → Member k old.1
+  pub survivors : (k : ℕ) → OneOf k new.1 → k < length old.0 → OneOf k old.1
 
 pub continues_refl : (store : List (List Elem) × List ℕ) → Continues store store
 continues_refl store = record { follows = ([], sym (append-nil store.0)); survivors = λ k m l. m }
@@ -42,7 +42,7 @@ continues_new old new o k s = record {
 pub record IsAdding (n : Normal) (key : List ℕ) (told : Told) (first : List (List Elem) × List ℕ) (first_waiting : List ℕ) (store : List (List Elem) × List ℕ) (waiting : List ℕ) (out : List (List Elem)) : Type 0 where
   pub closed : ClosedUpTo n key told store.0 store.1 waiting out
   pub working : IsWorking n key told store.0 waiting
-  pub concluded : (o : List Elem) → Member o out → ConcludesFrom n key (λ c. Member c store.0) told.backs told.deads o
+  pub concluded : (o : List Elem) → OneOf o out → ConcludesFrom n key (λ c. OneOf c store.0) told.backs told.deads o
   pub takes_up : TakesUpMore first.0 first_waiting store.0 waiting
   pub stays : Stays first.1 first_waiting store.1 waiting
   pub continues : Continues first store
@@ -67,7 +67,7 @@ module _ (n : Normal) (key : List ℕ) (told : Told) (first : List (List Elem) �
   pub add_new : (k : ℕ) → added ≡ New k → (after : List ℕ) → IsPutInto k waiting after → IsAdding n key told first fw new after out
   add_new k q after p =
       let h : IsNew old o new k = subst (λ x. IsOutcome old o new x) q t in
-      let c : ConcludesFrom n key (λ x. Member x old.0) told.backs told.deads o = at.concluded o (inl refl) in
+      let c : ConcludesFrom n key (λ x. OneOf x old.0) told.backs told.deads o = at.concluded o (inl refl) in
       record {
         closed = out_new n key told old new waiting after o k out at.closed h p.isin;
         working = working_new n key told old new waiting after o k at.working c h p;
@@ -93,7 +93,7 @@ pub working_taken : (n : Normal) (key : List ℕ) (told : Told) (clauses : List 
 working_taken n key told clauses waiting after m w t = record { in_turn = w.in_turn; in_range = λ i h. w.in_range i (t.after i h); fewer = let x = w.fewer in let y = t.count in omega arith }
 
 -- a conclusion from clauses of numbers in range is one from stored clauses
-pub concluded_of : (n : Normal) (key : List ℕ) (told : Told) (clauses : List (List Elem)) (numbers : List ℕ) (o : List Elem) → ((k : ℕ) → Member k numbers → k < length clauses)
-    → ConcludesFrom n key (IsPicked clauses numbers) told.backs told.deads o → ConcludesFrom n key (λ c. Member c clauses) told.backs told.deads o
-concluded_of n key told clauses numbers o range q = more_from n key told (IsPicked clauses numbers) (λ c. Member c clauses) o
-    (λ c h. let r = picked_from clauses numbers c h in subst (λ x. Member x clauses) (sym r.2) (member_get clauses r.0 [] (range r.0 r.1))) q
+pub concluded_of : (n : Normal) (key : List ℕ) (told : Told) (clauses : List (List Elem)) (numbers : List ℕ) (o : List Elem) → ((k : ℕ) → OneOf k numbers → k < length clauses)
+    → ConcludesFrom n key (IsPicked clauses numbers) told.backs told.deads o → ConcludesFrom n key (λ c. OneOf c clauses) told.backs told.deads o
+concluded_of n key told clauses numbers o range q = more_from n key told (IsPicked clauses numbers) (λ c. OneOf c clauses) o
+    (λ c h. let r = picked_from clauses numbers c h in subst (λ x. OneOf x clauses) (sym r.2) (member_get clauses r.0 [] (range r.0 r.1))) q

@@ -3,7 +3,7 @@ use Rattle.std.proofs.Common.{◌≡◌, ◌≢◌, ◌↔◌, ◌==◌, ℕ, ze
 use Rattle.std.specs.Prelude.{nat_lt}
 use Rattle.std.proofs.lemmas.Bool.{and_from, and_parts, cases_eq, cond-true, lt-ltb, ltb-true, ne_eqb, not_from_false}
 use Rattle.std.proofs.lemmas.List.{nil_from_length}
-use Rattle.cd_base.specs.Lists.{Member}
+use Rattle.cd_base.specs.Lists.{OneOf}
 use Rattle.cd_base.specs.Normal.{is_triple_below}
 use Rattle.cd_base.specs.declared.normal.Conj.{Conj}
 use Rattle.cd_base.specs.declared.normal.Normal.{Normal}
@@ -31,18 +31,18 @@ abbrev pub OfPlace : List (List Elem) → List ℕ → ℕ → ℕ → ℕ → T
 OfPlace clauses atoms place j m = (j ≡ place → ⊥) × HasElem clauses (Plain (get_or atoms j 0)) m
 
 -- the atom itself stands on a left side from which it is taken
-pub stands : (a : ℕ) (left taken : List ℕ) → IsWithoutOne a left taken → Member a left
-stands a left taken w = subst (Member a) (sym w.2) (member_right a w.0 (a ∷ w.1) (inl refl))
+pub stands : (a : ℕ) (left taken : List ℕ) → IsWithoutOne a left taken → OneOf a left
+stands a left taken w = subst (OneOf a) (sym w.2) (member_right a w.0 (a ∷ w.1) (inl refl))
 
 -- the atoms of a left side are the one that is taken out, and the others
-pub all_had : (clauses : List (List Elem)) (a : ℕ) (left taken : List ℕ) → IsHad clauses (Plain a) → IsWithoutOne a left taken → ((b : ℕ) → Member b taken → IsHad clauses (Plain b)) → (b : ℕ) → Member b left → IsHad clauses (Plain b)
-all_had clauses a left taken own w h b m = elim (member_cases b w.0 (a ∷ w.1) (subst (Member b) w.2 m)) [
-  | inl q ↦ h b (subst (Member b) (sym w.3) (member_left b w.0 w.1 q))
-  | inr q ↦ elim q [ inl e ↦ subst (λ (z : ℕ). IsHad clauses (Plain z)) (sym e) own | inr z ↦ h b (subst (Member b) (sym w.3) (member_right b w.0 w.1 z)) ]
+pub all_had : (clauses : List (List Elem)) (a : ℕ) (left taken : List ℕ) → IsHad clauses (Plain a) → IsWithoutOne a left taken → ((b : ℕ) → OneOf b taken → IsHad clauses (Plain b)) → (b : ℕ) → OneOf b left → IsHad clauses (Plain b)
+all_had clauses a left taken own w h b m = elim (member_cases b w.0 (a ∷ w.1) (subst (OneOf b) w.2 m)) [
+  | inl q ↦ h b (subst (OneOf b) (sym w.3) (member_left b w.0 w.1 q))
+  | inr q ↦ elim q [ inl e ↦ subst (λ (z : ℕ). IsHad clauses (Plain z)) (sym e) own | inr z ↦ h b (subst (OneOf b) (sym w.3) (member_right b w.0 w.1 z)) ]
 ]
 
 -- each of the others stands at a place beside that of the one that is taken out
-other_place : (a b : ℕ) (before after : List ℕ) → Member b (before ++ after) → (j : ℕ) × (j < length (before ++ (a ∷ after))) × (j ≡ length before → ⊥) × (get_or (before ++ (a ∷ after)) j 0 ≡ b)
+other_place : (a b : ℕ) (before after : List ℕ) → OneOf b (before ++ after) → (j : ℕ) × (j < length (before ++ (a ∷ after))) × (j ≡ length before → ⊥) × (get_or (before ++ (a ∷ after)) j 0 ≡ b)
 other_place a b [] after m = let w = member_at b after m in (suc w.0, omega (arith, w.1), (λ e. absurd (omega arith)), w.2 0)
 other_place a b (c ∷ before) after (inl e) = (0, omega arith, (λ z. absurd (omega arith)), sym e)
 other_place a b (c ∷ before) after (inr m) =
@@ -58,7 +58,7 @@ pub elsewhere : (clauses : List (List Elem)) (a : ℕ) (left : List ℕ) (place 
 elsewhere clauses a left place m l e q =
     let w = q.1 in
     let b = q.3.0 in
-    let there = other_place a b w.0 w.1 (subst (Member b) w.3 q.3.1) in
+    let there = other_place a b w.0 w.1 (subst (OneOf b) w.3 q.3.1) in
     let own = own_place a w.0 w.1 in
     let n : ℕ = length w.0 in
     let lt : there.0 < length left = subst (λ (z : List ℕ). there.0 < length z) (sym w.2) there.1 in
@@ -98,27 +98,27 @@ left_read (y ∷ axioms) (suc k) x l e = left_read axioms k x (omega arith) e
 abbrev pub OfAtomAt : Normal → List (List Elem) → List (List ℕ) → List ℕ → ℕ → ℕ → ℕ → Type 0
 OfAtomAt n clauses filed atoms a i m = IsBesideByFiled n filed clauses a (get_or atoms i 0) m
 
-in_filed : (filed : List (List ℕ)) (number b k : ℕ) → b < number → Member k (get_or filed b []) → Member k (filed_at filed number b)
-in_filed filed number b k l m = subst (Member k) (sym (cond-true (nat_lt b number) (get_or filed b []) [] (lt-ltb b number l))) m
+in_filed : (filed : List (List ℕ)) (number b k : ℕ) → b < number → OneOf k (get_or filed b []) → OneOf k (filed_at filed number b)
+in_filed filed number b k l m = subst (OneOf k) (sym (cond-true (nat_lt b number) (get_or filed b []) [] (lt-ltb b number l))) m
 
-has_member : (atoms : List ℕ) (a : ℕ) → has a atoms ≡ true → Member a atoms
-has_member atoms a h = let w = any_member (λ (b : ℕ). b == a) atoms h in subst (λ z. Member z atoms) (eqb-true w.0 a w.2) w.1
+has_member : (atoms : List ℕ) (a : ℕ) → has a atoms ≡ true → OneOf a atoms
+has_member atoms a h = let w = any_member (λ (b : ℕ). b == a) atoms h in subst (λ z. OneOf z atoms) (eqb-true w.0 a w.2) w.1
 
 -- an atom on the left is in range
-left_below : (n : Normal) (k atom : ℕ) → Member atom (left_of n.n1 k) → atom < n.atoms
+left_below : (n : Normal) (k atom : ℕ) → OneOf atom (left_of n.n1 k) → atom < n.atoms
 left_below n k atom m = atom_below n.atoms n.n1 k atom n.n1_within (any_by_member (λ (b : ℕ). b == atom) (left_of n.n1 k) atom m (eq-eqb atom atom refl))
 
 -- an axiom with a left side is filed under the atom that is chosen from it
 filed_there : (n : Normal) (filed : List (List ℕ)) (filing : IsFiling n.n1 n.atoms filed) (k : ℕ) → k < length n.n1 → left_of n.n1 k ≢ []
-    → Member (filing.chosen k) (left_of n.n1 k) × Member k (filed_at filed n.atoms (filing.chosen k))
+    → OneOf (filing.chosen k) (left_of n.n1 k) × OneOf k (filed_at filed n.atoms (filing.chosen k))
 filed_there n filed filing k l some =
     let a : ℕ = filing.chosen k in
-    let there : Member a (left_of n.n1 k) = has_member (left_of n.n1 k) a (filing.stands k l some) in
+    let there : OneOf a (left_of n.n1 k) = has_member (left_of n.n1 k) a (filing.stands k l some) in
     let below : a < n.atoms = left_below n k a there in
     let not_free : is_free n.n1 k ≡ false = ne_eqb (length (left_of n.n1 k)) 0 (λ e. some (nil_from_length (left_of n.n1 k) e)) in (
       there,
       in_filed filed n.atoms a k below
-          (subst (Member k) (sym (filing.exact.at a below))
+          (subst (OneOf k) (sym (filing.exact.at a below))
           (number_found n.n1 (λ (j : ℕ). is_filed n.n1 filing.chosen a j) k l (and_from (not (is_free n.n1 k)) (a == a) (not_from_false (is_free n.n1 k) not_free) (eq-eqb a a refl)))),
     )
 
@@ -127,9 +127,9 @@ pub by_filed : (n : Normal) (clauses : List (List Elem)) (atoms : List ℕ) (a :
     → (i : ℕ) × (i < length atoms) × OfAtomAt n clauses filed atoms a i m
 by_filed n clauses atoms a filed filing every own m q =
     let left = left_of n.n1 q.0 in
-    let there : Member a left = stands a left q.2.0 q.2.1 in
+    let there : OneOf a left = stands a left q.2.0 q.2.1 in
     let g : IsFiling n.n1 n.atoms filed = filing (left_below n q.0 a there) in
-    let at = filed_there n filed g q.0 q.1 (λ e. absurd (subst (Member a) e there)) in
+    let at = filed_there n filed g q.0 q.1 (λ e. absurd (subst (OneOf a) e there)) in
     let chosen : ℕ = g.chosen q.0 in
     let some : IsHad clauses (Plain chosen) = all_had clauses a left q.2.0 own q.2.1 q.2.2 chosen at.0 in
     let w = member_at chosen atoms (every chosen some.0 some.1) in
@@ -156,7 +156,7 @@ by_atom n clauses atoms every m q =
     (w.0, w.1, subst (λ a. IsBesideByUniversal n clauses a m) is ((q.0, q.1, refl), q.2))
 
 -- the atom of a universal is in range
-pub universal_below : (n : Normal) (a : ℕ) → ((t : Triple) × Member t n.n4 × (t.atom ≡ a)) → a < n.atoms
+pub universal_below : (n : Normal) (a : ℕ) → ((t : Triple) × OneOf t n.n4 × (t.atom ≡ a)) → a < n.atoms
 universal_below n a q =
     let t : Triple = q.0 in
     let h = all_member (is_triple_below n.atoms n.roles) n.n4 n.n4_within t q.1 in
@@ -164,7 +164,7 @@ universal_below n a q =
     subst (λ (c : ℕ). c < n.atoms) q.2 (ltb-true t.atom n.atoms (and_parts (nat_lt t.atom n.atoms) (nat_lt t.role n.roles) b.0).0)
 
 -- a list is empty, or has something
-pub has_some : {X : Type 0} (xs ys : List X) (b : Bool) → xs ≡ ys → b ≡ (length xs == 0) → (not b ≡ true) ↔ ((x : X) × Member x ys)
+pub has_some : {X : Type 0} (xs ys : List X) (b : Bool) → xs ≡ ys → b ≡ (length xs == 0) → (not b ≡ true) ↔ ((x : X) × OneOf x ys)
 has_some xs ys b s e = (
   λ h. elim (cases_eq (length xs) 0) [
     | inl z ↦ absurd (not_true (length xs == 0) (ap not (sym e) ∙ h) (eq-eqb (length xs) 0 z))
@@ -173,16 +173,16 @@ has_some xs ys b s e = (
   λ q. none_of xs ys b s e q,
 )
   where
-    some_of : {X : Type 0} (xs ys : List X) → xs ≡ ys → (length xs ≡ 0 → ⊥) → (x : X) × Member x ys
+    some_of : {X : Type 0} (xs ys : List X) → xs ≡ ys → (length xs ≡ 0 → ⊥) → (x : X) × OneOf x ys
     some_of [] ys s h = absurd (h refl)
-    some_of (x ∷ xs) ys s h = (x, subst (λ l. Member x l) s (inl refl))
+    some_of (x ∷ xs) ys s h = (x, subst (λ l. OneOf x l) s (inl refl))
 
-    none_of : {X : Type 0} (xs ys : List X) (b : Bool) → xs ≡ ys → b ≡ (length xs == 0) → (x : X) × Member x ys → not b ≡ true
-    none_of [] ys b s e q = absurd (subst (λ l. Member q.0 l) (sym s) q.1)
+    none_of : {X : Type 0} (xs ys : List X) (b : Bool) → xs ≡ ys → b ≡ (length xs == 0) → (x : X) × OneOf x ys → not b ≡ true
+    none_of [] ys b s e q = absurd (subst (λ l. OneOf q.0 l) (sym s) q.1)
     none_of (x ∷ xs) ys b s e q = ap not (e ∙ ne_eqb (length (x ∷ xs)) 0 (λ z. absurd (omega arith)))
 
 -- an atom has a universal just where it has a list of some
-pub universal_of : (triples found : List Triple) (a : ℕ) (b : Bool) → AreAtAtom triples a found → b ≡ (length found == 0) → (not b ≡ true) ↔ ((t : Triple) × Member t triples × (t.atom ≡ a))
+pub universal_of : (triples found : List Triple) (a : ℕ) (b : Bool) → AreAtAtom triples a found → b ≡ (length found == 0) → (not b ≡ true) ↔ ((t : Triple) × OneOf t triples × (t.atom ≡ a))
 universal_of triples found a b h e =
     let w = has_some found found b refl e in
     (λ t. (let q = w.0 t in let p = (h q.0).0 q.1 in (q.0, p.0, p.1)), λ q. w.1 (q.0, (h q.0).1 (q.1, q.2)))
@@ -200,7 +200,7 @@ by_elem n clauses c m q =
 
 -- k is the number at place i, live, and another one, and doesn't wait
 abbrev pub OfTakenUp : List ℕ → List ℕ → List ℕ → ℕ → ℕ → ℕ → Type 0
-OfTakenUp candidates live waiting premise i k = (k ≡ get_or candidates i 0) × Member k live × (Member k waiting → ⊥) × (k ≡ premise → ⊥)
+OfTakenUp candidates live waiting premise i k = (k ≡ get_or candidates i 0) × OneOf k live × (OneOf k waiting → ⊥) × (k ≡ premise → ⊥)
 
-pub all_taken_up : (candidates live waiting : List ℕ) (premise k : ℕ) → (Member k candidates × Member k live × (Member k waiting → ⊥) × (k ≡ premise → ⊥)) → (i : ℕ) × (i < length candidates) × OfTakenUp candidates live waiting premise i k
+pub all_taken_up : (candidates live waiting : List ℕ) (premise k : ℕ) → (OneOf k candidates × OneOf k live × (OneOf k waiting → ⊥) × (k ≡ premise → ⊥)) → (i : ℕ) × (i < length candidates) × OfTakenUp candidates live waiting premise i k
 all_taken_up candidates live waiting premise k q = let w = member_at k candidates q.0 in (w.0, w.1, (sym (w.2 0), q.1, q.2, q.3))

@@ -3,7 +3,7 @@ use Rattle.std.proofs.Common.{◌≡◌, ℕ, ◌+◌, ◌<◌, ◌≤◌, ◌�
 use Rattle.std.specs.List.{list_any}
 use Rattle.std.proofs.lemmas.Bool.{cases_lt, and_from}
 use Rattle.std.proofs.lemmas.List.{length-append, append-nil}
-use Rattle.cd_base.specs.Lists.{Member}
+use Rattle.cd_base.specs.Lists.{OneOf}
 use Rattle.cd_base.proofs.Members.{member_left, member_right, any_member, any_by_member}
 use Rattle.cd_rules.specs.declared.facts.BackFact.{BackFact}
 use Rattle.cd_rules.specs.declared.facts.DeadFact.{DeadFact}
@@ -26,7 +26,7 @@ begins_length : {X : Type 0} (old new : List X) → Begins old new → length ol
 begins_length old new b = let l : length new ≡ length old + length b.0 = ap (λ z. length z) b.1 ∙ length-append old b.0 in omega arith
 
 any_begins : {X : Type 0} (p : X → Bool) (old new : List X) → Begins old new → list_any p old ≡ true → list_any p new ≡ true
-any_begins p old new b h = let r = any_member p old h in any_by_member p new r.0 (subst (λ w. Member r.0 w) (sym b.1) (member_left r.0 old b.0 r.1)) r.2
+any_begins p old new b h = let r = any_member p old h in any_by_member p new r.0 (subst (λ w. OneOf r.0 w) (sym b.1) (member_left r.0 old b.0 r.1)) r.2
 
 pub length_one_more : {X : Type 0} (old new : List X) (x : X) → new ≡ old ++ x ∷ [] → length new ≡ length old + 1
 length_one_more old new x e = ap (λ z. length z) e ∙ length-append old (x ∷ [])
@@ -70,13 +70,13 @@ same_key_refl [] = refl
 same_key_refl (x ∷ k) = and_from _ _ (eq-eqb x x refl) (same_key_refl k)
 
 pub had_link : (s : State) (links : List LinkFact) (f : LinkFact) → s.links ≡ links ++ f ∷ [] → has_fact s (Link f.key f.role) ≡ true
-had_link s links f e = any_by_member _ s.links f (subst (λ w. Member f w) (sym e) (member_right f links (f ∷ []) (inl refl)))
+had_link s links f e = any_by_member _ s.links f (subst (λ w. OneOf f w) (sym e) (member_right f links (f ∷ []) (inl refl)))
     (and_from _ _ (same_key_refl f.key) (eq-eqb f.role f.role refl))
 
 pub had_back : (s : State) (backs : List BackFact) (f : BackFact) → s.backs ≡ backs ++ f ∷ [] → has_fact s (Back f.role f.key f.atom) ≡ true
-had_back s backs f e = any_by_member _ s.backs f (subst (λ w. Member f w) (sym e) (member_right f backs (f ∷ []) (inl refl)))
+had_back s backs f e = any_by_member _ s.backs f (subst (λ w. OneOf f w) (sym e) (member_right f backs (f ∷ []) (inl refl)))
     (and_from _ _ (eq-eqb f.role f.role refl) (and_from _ _ (same_key_refl f.key) (eq-eqb f.atom f.atom refl)))
 
 pub had_dead : (s : State) (deads : List DeadFact) (f : DeadFact) → s.deads ≡ deads ++ f ∷ [] → has_fact s (Dead f.role f.key) ≡ true
-had_dead s deads f e = any_by_member _ s.deads f (subst (λ w. Member f w) (sym e) (member_right f deads (f ∷ []) (inl refl)))
+had_dead s deads f e = any_by_member _ s.deads f (subst (λ w. OneOf f w) (sym e) (member_right f deads (f ∷ []) (inl refl)))
     (and_from _ _ (eq-eqb f.role f.role refl) (same_key_refl f.key))

@@ -1,7 +1,7 @@
 -- What a context stores is derived, and what it owes is justified.
 use Rattle.std.proofs.Common.{ℕ, List, [], ◌∷◌, reverse, sym, subst, inl, inr}
 use Rattle.std.proofs.lemmas.List.{reverse-append}
-use Rattle.cd_base.specs.Lists.{Member}
+use Rattle.cd_base.specs.Lists.{OneOf}
 use Rattle.cd_base.specs.declared.normal.Normal.{Normal}
 use Rattle.cd_base.proofs.Members.{member_left, member_right, member_get}
 use Rattle.cd_clause.specs.declared.elem.Elem.{Elem}
@@ -19,22 +19,22 @@ use Rattle.cd_context.specs.Owes.{owes_link, owes_back, owes_dead}
 use Rattle.cd_context.specs.State.{State, live_of}
 
 -- a list has no other members than its reverse
-pub member_reversed : {X : Type 0} (x : X) (xs : List X) → Member x xs → Member x (reverse xs)
+pub member_reversed : {X : Type 0} (x : X) (xs : List X) → OneOf x xs → OneOf x (reverse xs)
 member_reversed x [] m = m
 member_reversed {X} x (y ∷ xs) m =
-    subst (λ (l : List X). Member x l) (sym (reverse-append (y ∷ []) xs))
+    subst (λ (l : List X). OneOf x l) (sym (reverse-append (y ∷ []) xs))
     (elim m [ inl e ↦ member_right x (reverse xs) (y ∷ []) (inl e) | inr k ↦ member_left x (reverse xs) (y ∷ []) (member_reversed x xs k) ])
 
 -- what is stored in turn, from facts that are true, is derived
 pub in_turn_derived : (n : Normal) (key : List ℕ) (backs : List BackFact) (deads : List DeadFact)
     → ((r : ℕ) (k : List ℕ) (a : ℕ) → IsBack backs r k a → HasDerived n k (Plain a)) → ((r : ℕ) (k : List ℕ) → IsDead deads r k → Derived n k [])
-    → (cs : List (List Elem)) → StoredInTurn n key backs deads cs → (c : List Elem) → Member c cs → Derived n key c
+    → (cs : List (List Elem)) → StoredInTurn n key backs deads cs → (c : List Elem) → OneOf c cs → Derived n key c
 in_turn_derived n key backs deads f g [] s c m = absurd m
 in_turn_derived n key backs deads f g (x ∷ cs) s c (inr m) = in_turn_derived n key backs deads f g cs s.1 c m
 in_turn_derived n key backs deads f g (x ∷ cs) s c (inl q) =
-    let earlier : (c : List Elem) → Member c cs → Derived n key c = in_turn_derived n key backs deads f g cs s.1 in
+    let earlier : (c : List Elem) → OneOf c cs → Derived n key c = in_turn_derived n key backs deads f g cs s.1 in
     subst (Derived n key) (sym q) (derived_closed n key x
-    (concludes_more n key (λ c. Member c cs) (Derived n key) (IsBack backs) (λ r k a. HasDerived n k (Plain a)) (IsDead deads) (λ r k. Derived n k []) x
+    (concludes_more n key (λ c. OneOf c cs) (Derived n key) (IsBack backs) (λ r k a. HasDerived n k (Plain a)) (IsDead deads) (λ r k. Derived n k []) x
     earlier f g s.0))
 
 pub stored_derived : StoredDerived
@@ -43,10 +43,10 @@ stored_derived n s j c m =
     (member_reversed c s.clauses m)
 
 -- a live clause is derived
-pub live_derived : (n : Normal) (s : State) → IsContext n s → (c : List Elem) → Member c (live_of s) → Derived n s.key c
+pub live_derived : (n : Normal) (s : State) → IsContext n s → (c : List Elem) → OneOf c (live_of s) → Derived n s.key c
 live_derived n s j c m =
     let r = picked_from s.clauses s.live c m in
-    stored_derived n s j c (subst (λ (d : List Elem). Member d s.clauses) (sym r.2) (member_get s.clauses r.0 [] (j.store.in_range r.0 r.1)))
+    stored_derived n s j c (subst (λ (d : List Elem). OneOf d s.clauses) (sym r.2) (member_get s.clauses r.0 [] (j.store.in_range r.0 r.1)))
 
 pub owed_justified : OwedJustified
 owed_justified n s j note (owes_link r k c m e q) =

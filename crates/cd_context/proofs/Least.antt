@@ -7,14 +7,14 @@ use Rattle.std.specs.Cmp.{nat_cmp_is}
 use Rattle.std.specs.declared.cmp.Ordering.TheVariants.{Less, Equal}
 use Rattle.std.proofs.lemmas.Bool.{cases_order, cases_lt, false≢true}
 use Rattle.std.proofs.lemmas.List.Sorted.{IsPermutation-sym, IsPermutation-map, All-permutation, length_permutation}
-use Rattle.cd_base.specs.Lists.{Member}
+use Rattle.cd_base.specs.Lists.{OneOf}
 use Rattle.cd_base.proofs.Members.{all_of_member, all_from_member, map_member}
 use Rattle.cd_context.specs.TakeUp.{IsTakenFrom, IsPutInto}
 use Rattle.cd_context.specs.Waits.{numbers, IsLeastTaken}
 
 -- what is in a list is in each order of it
-member_permuted : {X : Type 0} (xs ys : List X) → IsPermutation xs ys → (x : X) → Member x xs → Member x ys
-member_permuted {X} xs ys p = all_of_member (λ (z : X). Member z ys) xs (All-permutation (λ (z : X). Member z ys) ys xs (IsPermutation-sym xs ys p) (all_from_member (λ (z : X). Member z ys) ys (λ z m. m)))
+member_permuted : {X : Type 0} (xs ys : List X) → IsPermutation xs ys → (x : X) → OneOf x xs → OneOf x ys
+member_permuted {X} xs ys p = all_of_member (λ (z : X). OneOf z ys) xs (All-permutation (λ (z : X). OneOf z ys) ys xs (IsPermutation-sym xs ys p) (all_from_member (λ (z : X). OneOf z ys) ys (λ z m. m)))
 
 pub put_into : (n : ℕ) (old new : List ℕ) → IsPermutation (n ∷ old) new → IsPutInto n old new
 put_into n old new p = record {
@@ -59,7 +59,7 @@ least_pair a b c d h = elim (cases_order c a) [
   ]
 ]
 
-all_member_of : {X : Type 0} (P : X → Type 0) (xs : List X) → AllByRecursion P xs → (x : X) → Member x xs → P x
+all_member_of : {X : Type 0} (P : X → Type 0) (xs : List X) → AllByRecursion P xs → (x : X) → OneOf x xs → P x
 all_member_of P [] h x m = absurd m
 all_member_of P (y ∷ xs) h x (inl e) = subst P (sym e) h.0
 all_member_of P (y ∷ xs) h x (inr m) = all_member_of P xs h.1 x m

@@ -3,7 +3,7 @@ use Rattle.std.proofs.Common.{◌≡◌, ◌↔◌, ℕ, zero, suc, ◌+◌, ◌
 use Rattle.std.proofs.lemmas.Bool.{cases_lt, false≢true}
 use Rattle.std.proofs.lemmas.List.{get_or-reverse, length-reverse}
 use Rattle.cd_base.specs.Ascending.{Ascending}
-use Rattle.cd_base.specs.Lists.{Member, SameSet, Within}
+use Rattle.cd_base.specs.Lists.{OneOf, SameSet, Within}
 use Rattle.cd_base.proofs.Members.{member_at, member_get}
 use Rattle.cd_clause.specs.Elements.{is_before}
 use Rattle.cd_clause.specs.Numbers.{picked}
@@ -43,7 +43,7 @@ no_earlier cs n m a l h w =
     (subst (λ c. Within c (get_or (reverse cs) (length cs - 1 - m) [])) (sym pn) (subst (λ c. Within (get_or cs n []) c) (sym pm) w))
 
 -- where the empty clause is live, it is the last one
-pub last_is_empty : (clauses : List (List Elem)) (live : List ℕ) → IsStore clauses live → Member [] (picked clauses live) → get_or clauses (get_or live (length live - 1) 0) [] ≡ []
+pub last_is_empty : (clauses : List (List Elem)) (live : List ℕ) → IsStore clauses live → OneOf [] (picked clauses live) → get_or clauses (get_or live (length live - 1) 0) [] ≡ []
 last_is_empty clauses live s h =
     let r = picked_from clauses live [] h in
     let k = member_at r.0 live r.1 in
@@ -65,7 +65,7 @@ only_single a c v = (there a c, back a c v)
     there a (Exist r k ∷ []) h = absurd (false≢true h)
     there a (e ∷ f ∷ c) h = absurd (false≢true h)
 
-    one : (a : ℕ) (e : Elem) (c : List Elem) → Within (e ∷ c) (Plain a ∷ []) → (f : Elem) → Member f (e ∷ c) → f ≡ Plain a
+    one : (a : ℕ) (e : Elem) (c : List Elem) → Within (e ∷ c) (Plain a ∷ []) → (f : Elem) → OneOf f (e ∷ c) → f ≡ Plain a
     one a e c w f m = elim (w f m) [ inl q ↦ q | inr z ↦ absurd z ]
 
     back : (a : ℕ) (c : List Elem) → Ascending is_before c → SameSet c (Plain a ∷ []) → is_only a c ≡ true
@@ -81,10 +81,10 @@ only_single a c v = (there a c, back a c v)
 
 -- the last live clause is empty just where the empty clause is live
 pub empty_at_last : (clauses : List (List Elem)) (live : List ℕ) (held : List Elem) (b : Bool) → IsStore clauses live → 0 < length live → held ≡ get_or clauses (get_or live (length live - 1) 0) held
-    → b ≡ (length held == 0) → (b ≡ true) ↔ Member [] (picked clauses live)
+    → b ≡ (length held == 0) → (b ≡ true) ↔ OneOf [] (picked clauses live)
 empty_at_last clauses live held b s l e t = (there, back)
   where
-    isin : Member (get_or live (length live - 1) 0) live
+    isin : OneOf (get_or live (length live - 1) 0) live
     isin = member_get live (length live - 1) 0 (omega arith)
 
     same : held ≡ get_or clauses (get_or live (length live - 1) 0) []
@@ -94,17 +94,17 @@ empty_at_last clauses live held b s l e t = (there, back)
     none [] h = refl
     none (x ∷ c) h = let e : length (x ∷ c) ≡ 0 = eqb-true (length (x ∷ c)) 0 h in absurd (omega arith)
 
-    there : b ≡ true → Member [] (picked clauses live)
-    there h = subst (λ c. Member c (picked clauses live)) (sym same ∙ none held (sym t ∙ h)) (picked_in clauses live _ isin)
+    there : b ≡ true → OneOf [] (picked clauses live)
+    there h = subst (λ c. OneOf c (picked clauses live)) (sym same ∙ none held (sym t ∙ h)) (picked_in clauses live _ isin)
 
-    back : Member [] (picked clauses live) → b ≡ true
+    back : OneOf [] (picked clauses live) → b ≡ true
     back m = t ∙ ap (λ c. length c == 0) (same ∙ last_is_empty clauses live s m)
 
-module _ (clauses : List (List Elem)) (live : List ℕ) (a : ℕ) (range : (n : ℕ) → Member n live → n < length clauses) where
+module _ (clauses : List (List Elem)) (live : List ℕ) (a : ℕ) (range : (n : ℕ) → OneOf n live → n < length clauses) where
   pub single_at : (i : ℕ) (held : List Elem) → i < length live → held ≡ get_or clauses (get_or live i 0) held → SameSet held (Plain a ∷ []) → IsSingle (picked clauses live) a
   single_at i held l e s =
       let m = member_get live i 0 l in
-      (held, subst (λ c. Member c (picked clauses live)) (sym (e ∙ get_same clauses (get_or live i 0) held [] (range _ m))) (picked_in clauses live _ m), s)
+      (held, subst (λ c. OneOf c (picked clauses live)) (sym (e ∙ get_same clauses (get_or live i 0) held [] (range _ m))) (picked_in clauses live _ m), s)
 
   pub one_less : (i : ℕ) (held : List Elem) → i < length live → held ≡ get_or clauses (get_or live i 0) held → (SameSet held (Plain a ∷ []) → ⊥)
       → ((k : ℕ) → k < i → SameSet (get_or clauses (get_or live k 0) []) (Plain a ∷ []) → ⊥) → (k : ℕ) → k < i + 1 → SameSet (get_or clauses (get_or live k 0) []) (Plain a ∷ []) → ⊥

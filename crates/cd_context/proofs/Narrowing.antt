@@ -1,6 +1,6 @@
 -- Where enough clauses stand beside a premise, each conclusion that uses it can be had from them.
 use Rattle.std.proofs.Common.{◌≡◌, ◌⊎◌, ◌<◌, ℕ, List, [], ◌∷◌, length, get_or, refl, sym, ◌∙◌, subst, ap, inl, inr}
-use Rattle.cd_base.specs.Lists.{Member}
+use Rattle.cd_base.specs.Lists.{OneOf}
 use Rattle.cd_base.specs.declared.normal.Normal.{Normal}
 use Rattle.cd_base.proofs.Members.{member_at}
 use Rattle.cd_clause.specs.declared.elem.Elem.{Elem}
@@ -18,9 +18,9 @@ use Rattle.cd_store.specs.LookUps.{HasElem}
 use Rattle.cd_context.specs.Beside.{AreEnough, AreTakenUp, IsBeside, IsBesideLeft, IsHad}
 
 module _ (n : Normal) (clauses : List (List Elem)) (premise : ℕ) (live waiting found numbers : List ℕ)
-    (range : (m : ℕ) → Member m live → m < length clauses) (own : premise < length clauses)
-    (gained : (m : ℕ) → ((e : Elem) × Eligible n e (get_or clauses premise []) × IsBeside n clauses e m) → Member m found)
-    (kept : (m : ℕ) → Member m found → Member m live → (Member m waiting → ⊥) → (m ≡ premise) ⊎ Member m numbers) where
+    (range : (m : ℕ) → OneOf m live → m < length clauses) (own : premise < length clauses)
+    (gained : (m : ℕ) → ((e : Elem) × Eligible n e (get_or clauses premise []) × IsBeside n clauses e m) → OneOf m found)
+    (kept : (m : ℕ) → OneOf m found → OneOf m live → (OneOf m waiting → ⊥) → (m ≡ premise) ⊎ OneOf m numbers) where
   module _ (taken : List ℕ) (up : AreTakenUp live waiting taken) where
     abbrev Wide : List Elem → Type 0
     Wide = IsPicked clauses (premise ∷ taken)
@@ -29,26 +29,26 @@ module _ (n : Normal) (clauses : List (List Elem)) (premise : ℕ) (live waiting
     Narrow = IsPicked clauses (premise ∷ numbers)
 
     -- a clause with an element of which all clauses were found
-    pick : (c : List Elem) (e : Elem) → Wide c → Member e c → ((m : ℕ) → HasElem clauses e m → Member m found) → Narrow c
+    pick : (c : List Elem) (e : Elem) → Wide c → OneOf e c → ((m : ℕ) → HasElem clauses e m → OneOf m found) → Narrow c
     pick c e (inl q) m h = inl q
     pick c e (inr q) m h =
         let w = picked_from clauses taken c q in
-        elim (kept w.0 (h w.0 (range w.0 (up.0 w.0 w.1), subst (λ d. Member e d) w.2 m)) (up.0 w.0 w.1) (up.1 w.0 w.1)) [
+        elim (kept w.0 (h w.0 (range w.0 (up.0 w.0 w.1), subst (λ d. OneOf e d) w.2 m)) (up.0 w.0 w.1) (up.1 w.0 w.1)) [
           | inl s ↦ inl (w.2 ∙ ap (λ i. get_or clauses i []) s)
           | inr i ↦ inr (subst (λ d. IsPicked clauses numbers d) (sym w.2) (picked_in clauses numbers w.0 i))
         ]
 
     -- what stands in a clause is had
-    some_had : (c : List Elem) (a : ℕ) → Wide c → Member (Plain a) c → IsHad clauses (Plain a)
-    some_had c a (inl q) m = (premise, (own, subst (λ d. Member (Plain a) d) q m))
-    some_had c a (inr q) m = let w = picked_from clauses taken c q in (w.0, (range w.0 (up.0 w.0 w.1), subst (λ d. Member (Plain a) d) w.2 m))
+    some_had : (c : List Elem) (a : ℕ) → Wide c → OneOf (Plain a) c → IsHad clauses (Plain a)
+    some_had c a (inl q) m = (premise, (own, subst (λ d. OneOf (Plain a) d) q m))
+    some_had c a (inr q) m = let w = picked_from clauses taken c q in (w.0, (range w.0 (up.0 w.0 w.1), subst (λ d. OneOf (Plain a) d) w.2 m))
 
-    rests_had : (left : List ℕ) (m : List Elem) → Rests n Wide left m → (b : ℕ) → Member b left → IsHad clauses (Plain b)
+    rests_had : (left : List ℕ) (m : List Elem) → Rests n Wide left m → (b : ℕ) → OneOf b left → IsHad clauses (Plain b)
     rests_had [] m r b i = absurd i
     rests_had (a ∷ left) m r b (inl e) = subst (λ (z : ℕ). IsHad clauses (Plain z)) (sym e) (some_had r.0 a r.1 r.2.isin)
     rests_had (a ∷ left) m r b (inr i) = rests_had left r.3.tail r.3.rests b i
 
-    rests_narrow : (left : List ℕ) (m : List Elem) → ((b : ℕ) → Member b left → (k : ℕ) → HasElem clauses (Plain b) k → Member k found) → Rests n Wide left m → Rests n Narrow left m
+    rests_narrow : (left : List ℕ) (m : List Elem) → ((b : ℕ) → OneOf b left → (k : ℕ) → HasElem clauses (Plain b) k → OneOf k found) → Rests n Wide left m → Rests n Narrow left m
     rests_narrow [] m h r = r
     rests_narrow (a ∷ left) m h r = (
       r.0,

@@ -7,7 +7,7 @@ use Rattle.std.proofs.lemmas.Bool.Decides.{Decides-eqb}
 use Rattle.std.proofs.lemmas.Slice.Eq.{slice_eq-Decides}
 use Rattle.std.proofs.lemmas.List.{append_assoc, append-nil}
 use Rattle.indexmap.specs.IndexSet.{insert_key, insert_all}
-use Rattle.cd_base.specs.Lists.{Member, IsApart}
+use Rattle.cd_base.specs.Lists.{OneOf, HasNoRepeats}
 use Rattle.cd_base.proofs.Members.{any_by_member, any_member, member_left, member_right, member_cases}
 use Rattle.cd_context.specs.contracts.facts.FactPartialEq.TheImpl as facts
 use Rattle.cd_context.specs.contracts.facts.NotePartialEq.TheImpl as notes
@@ -65,14 +65,14 @@ same_note-true x y e =
 -- ---- inserting
 
 module _ {X : Type 0} (eq : X → X → Bool) where
-  inserted : (ks : List X) (x m : X) → Member m (insert_key eq ks x) → Member m ks ⊎ (m ≡ x)
+  inserted : (ks : List X) (x m : X) → OneOf m (insert_key eq ks x) → OneOf m ks ⊎ (m ≡ x)
   inserted ks x m h =
-      cond_both (list_any (eq x) ks) ks (ks ++ x ∷ []) (λ (l : List X). Member m l → Member m ks ⊎ (m ≡ x))
+      cond_both (list_any (eq x) ks) ks (ks ++ x ∷ []) (λ (l : List X). OneOf m l → OneOf m ks ⊎ (m ≡ x))
       (λ t n. inl n)
       (λ t n. elim (member_cases m ks (x ∷ []) n) [ inl k ↦ inl k | inr k ↦ elim k [ inl e ↦ inr e | inr z ↦ absurd z ] ])
       h
 
-  inserted_all : (ks xs : List X) (m : X) → Member m (insert_all eq ks xs) → Member m ks ⊎ Member m xs
+  inserted_all : (ks xs : List X) (m : X) → OneOf m (insert_all eq ks xs) → OneOf m ks ⊎ OneOf m xs
   inserted_all ks [] m h = inl h
   inserted_all ks (x ∷ xs) m h = elim (inserted_all (insert_key eq ks x) xs m h) [
     | inl k ↦ elim (inserted ks x m k) [ inl n ↦ inl n | inr e ↦ inr (inl e) ]
@@ -80,23 +80,23 @@ module _ {X : Type 0} (eq : X → X → Bool) where
   ]
 
   module _ (exact : (x y : X) → eq x y ≡ true → x ≡ y) where
-    stays : (ks : List X) (x m : X) → Member m ks ⊎ (m ≡ x) → Member m (insert_key eq ks x)
+    stays : (ks : List X) (x m : X) → OneOf m ks ⊎ (m ≡ x) → OneOf m (insert_key eq ks x)
     stays ks x m h =
-        cond_both (list_any (eq x) ks) ks (ks ++ x ∷ []) (λ (l : List X). Member m l)
+        cond_both (list_any (eq x) ks) ks (ks ++ x ∷ []) (λ (l : List X). OneOf m l)
         (λ t. elim h [
           | inl k ↦ k
-          | inr e ↦ (let w = any_member (eq x) ks t in subst (λ (z : X). Member z ks) (sym (e ∙ exact x w.0 w.2)) w.1)
+          | inr e ↦ (let w = any_member (eq x) ks t in subst (λ (z : X). OneOf z ks) (sym (e ∙ exact x w.0 w.2)) w.1)
         ])
         (λ t. elim h [ inl k ↦ member_left m ks (x ∷ []) k | inr e ↦ member_right m ks (x ∷ []) (inl e) ])
 
-    stay_all : (ks xs : List X) (m : X) → Member m ks ⊎ Member m xs → Member m (insert_all eq ks xs)
+    stay_all : (ks xs : List X) (m : X) → OneOf m ks ⊎ OneOf m xs → OneOf m (insert_all eq ks xs)
     stay_all ks [] m (inl h) = h
     stay_all ks [] m (inr h) = absurd h
     stay_all ks (x ∷ xs) m (inl h) = stay_all (insert_key eq ks x) xs m (inl (stays ks x m (inl h)))
     stay_all ks (x ∷ xs) m (inr (inl e)) = stay_all (insert_key eq ks x) xs m (inl (stays ks x m (inr e)))
     stay_all ks (x ∷ xs) m (inr (inr h)) = stay_all (insert_key eq ks x) xs m (inr h)
 
-  apart_more : (ks : List X) (x : X) → IsApart ks → (Member x ks → ⊥) → IsApart (ks ++ x ∷ [])
+  apart_more : (ks : List X) (x : X) → HasNoRepeats ks → (OneOf x ks → ⊥) → HasNoRepeats (ks ++ x ∷ [])
   apart_more [] x a d = (λ m. m, tt)
   apart_more (k ∷ ks) x a d = (
     λ m. elim (member_cases k ks (x ∷ []) m) [ inl n ↦ a.0 n | inr n ↦ elim n [ inl e ↦ d (inl (sym e)) | inr z ↦ z ] ],
@@ -104,13 +104,13 @@ module _ {X : Type 0} (eq : X → X → Bool) where
   )
 
   module _ (itself : (x : X) → eq x x ≡ true) where
-    apart_key : (ks : List X) (x : X) → IsApart ks → IsApart (insert_key eq ks x)
+    apart_key : (ks : List X) (x : X) → HasNoRepeats ks → HasNoRepeats (insert_key eq ks x)
     apart_key ks x a =
-        cond_both (list_any (eq x) ks) ks (ks ++ x ∷ []) (λ (l : List X). IsApart l)
+        cond_both (list_any (eq x) ks) ks (ks ++ x ∷ []) (λ (l : List X). HasNoRepeats l)
         (λ t. a)
         (λ t. apart_more ks x a (λ m. both_ways (list_any (eq x) ks) t (any_by_member (eq x) ks x m (itself x))))
 
-    apart_all : (ks xs : List X) → IsApart ks → IsApart (insert_all eq ks xs)
+    apart_all : (ks xs : List X) → HasNoRepeats ks → HasNoRepeats (insert_all eq ks xs)
     apart_all ks [] a = a
     apart_all ks (x ∷ xs) a = apart_all (insert_key eq ks x) xs (apart_key ks x a)
 
@@ -144,28 +144,28 @@ adding_goes all rest later old mid new note a e f = record {
   follows = f ∙ ap (λ (l : List Note). l ++ note ∷ []) a.follows ∙ append_assoc old a.seen (note ∷ []);
 }
 
-apart_left : {X : Type 0} (xs ys : List X) → IsApart (xs ++ ys) → IsApart xs
+apart_left : {X : Type 0} (xs ys : List X) → HasNoRepeats (xs ++ ys) → HasNoRepeats xs
 apart_left [] ys a = tt
 apart_left (x ∷ xs) ys a = (λ m. a.0 (member_left x xs ys m), apart_left xs ys a.1)
 
 -- some were appended
-pub adding_stops : (notes all rest old new : List Note) (Done : Type 0) → HasEachOnce notes all → IsAdding all rest old new → (Done → ⊥) → AppendsOnce (λ note. Member note notes) Done old new
+pub adding_stops : (notes all rest old new : List Note) (Done : Type 0) → HasEachOnce notes all → IsAdding all rest old new → (Done → ⊥) → AppendsOnce (λ note. OneOf note notes) Done old new
 adding_stops notes all rest old new Done h a undone = record {
   added = a.seen;
   follows = a.follows;
-  only = λ note m. h.only note (subst (λ (l : List Note). Member note l) (sym a.split) (member_left note a.seen rest m));
-  once = apart_left a.seen rest (subst (λ (l : List Note). IsApart l) a.split h.once);
+  only = λ note m. h.only note (subst (λ (l : List Note). OneOf note l) (sym a.split) (member_left note a.seen rest m));
+  once = apart_left a.seen rest (subst (λ (l : List Note). HasNoRepeats l) a.split h.once);
   every = λ d note m. absurd (undone d);
 }
 
 -- all were appended
-pub adding_ends : (notes all rest old new : List Note) (Done : Type 0) → HasEachOnce notes all → IsAdding all rest old new → rest ≡ [] → AppendsOnce (λ note. Member note notes) Done old new
+pub adding_ends : (notes all rest old new : List Note) (Done : Type 0) → HasEachOnce notes all → IsAdding all rest old new → rest ≡ [] → AppendsOnce (λ note. OneOf note notes) Done old new
 adding_ends notes all rest old new Done h a e =
     let same : a.seen ≡ all = sym (a.split ∙ ap (λ (l : List Note). a.seen ++ l) e ∙ append-nil a.seen) in
     record {
       added = a.seen;
       follows = a.follows;
-      only = λ note m. h.only note (subst (λ (l : List Note). Member note l) same m);
-      once = subst (λ (l : List Note). IsApart l) (sym same) h.once;
-      every = λ d note m. subst (λ (l : List Note). Member note l) (sym same) (h.every note m);
+      only = λ note m. h.only note (subst (λ (l : List Note). OneOf note l) same m);
+      once = subst (λ (l : List Note). HasNoRepeats l) (sym same) h.once;
+      every = λ d note m. subst (λ (l : List Note). OneOf note l) (sym same) (h.every note m);
     }

@@ -3,7 +3,7 @@ use Rattle.std.proofs.Common.{◌≡◌, ◌⊎◌, ℕ, zero, suc, ◌<◌, ◌
 use Rattle.std.specs.Prelude.{nat_lt}
 use Rattle.std.specs.List.Sorted.{IsNonDecreasingBy, IsPartitionPoint}
 use Rattle.std.proofs.lemmas.Bool.{cases_lt, lt-ltb, ltb-true, ltb-false}
-use Rattle.cd_base.specs.Lists.{Member}
+use Rattle.cd_base.specs.Lists.{OneOf}
 use Rattle.cd_base.specs.declared.normal.Normal.{Normal}
 use Rattle.cd_base.specs.declared.normal.Triple.{Triple}
 use Rattle.cd_base.proofs.Members.{member_at, member_get, member_right, member_cases}
@@ -32,7 +32,7 @@ use Rattle.cd_rules.proofs.Found.{filtered_member, member_filtered}
 
 -- the link of an existential that is eligible
 pub link_at : (n : Normal) (own : List ℕ) (c : List Elem) (i r : ℕ) (k : List ℕ) (Done : Type 0) (old new : List Note)
-    → get_or c i (Plain 0) ≡ Exist r k → Eligible n (get_or c i (Plain 0)) c → Appends Member (IsLinkNote own r k) Done old new → Appends Member (IsLinkAt n own c i) Done old new
+    → get_or c i (Plain 0) ≡ Exist r k → Eligible n (get_or c i (Plain 0)) c → Appends OneOf (IsLinkNote own r k) Done old new → Appends OneOf (IsLinkAt n own c i) Done old new
 link_at n own c i r k Done old new e el a =
     otherwise (IsLinkNote own r k) (IsLinkAt n own c i) Done Done old new
     (λ note p. (r, k, e, subst (λ (x : Elem). Eligible n x c) e el, p))
@@ -46,8 +46,8 @@ link_at n own c i r k Done old new e el a =
 
 -- the backs of an atom that is eligible
 pub backs_at : (n : Normal) (own : List ℕ) (links : List LinkFact) (c : List Elem) (i a : ℕ) (Done : Type 0) (old new : List Note)
-    → get_or c i (Plain 0) ≡ Plain a → Eligible n (get_or c i (Plain 0)) c → Appends Member (OfOne (IsUsefulBack n own a) links) Done old new
-    → Appends Member (IsBackAt n own links c i) Done old new
+    → get_or c i (Plain 0) ≡ Plain a → Eligible n (get_or c i (Plain 0)) c → Appends OneOf (OfOne (IsUsefulBack n own a) links) Done old new
+    → Appends OneOf (IsBackAt n own links c i) Done old new
 backs_at n own links c i a Done old new e el w =
     otherwise (OfOne (IsUsefulBack n own a) links) (IsBackAt n own links c i) Done Done old new
     (λ note p. (a, e, subst (λ (x : Elem). Eligible n x c) e el, p))
@@ -70,7 +70,7 @@ use_found n a axioms r at u = (u.0, (at u.0).1 (u.1, u.2), u.3)
 
 -- the links of the places are those of the clause
 pub links_end : (n : Normal) (own : List ℕ) (c : List Elem) (count : ℕ) (Done Done' : Type 0) (old new : List Note) → count ≡ length c → (Done' → Done)
-    → Appends Member (OfBelow (IsLinkAt n own c) count) Done old new → Appends Member (IsLinkOf n own c) Done' old new
+    → Appends OneOf (OfBelow (IsLinkAt n own c) count) Done old new → Appends OneOf (IsLinkOf n own c) Done' old new
 links_end n own c count Done Done' old new e d a =
     otherwise (OfBelow (IsLinkAt n own c) count) (IsLinkOf n own c) Done Done' old new
     (λ note q. (q.2.0, q.2.1, q.2.3, q.2.4))
@@ -78,27 +78,27 @@ links_end n own c count Done Done' old new e d a =
 
 -- what the places of a clause tell is what it tells, where it isn't empty
 pub told_end : (n : Normal) (own : List ℕ) (links : List LinkFact) (c : List Elem) (count : ℕ) (Done Done' : Type 0) (old new : List Note) → count ≡ length c → (count ≡ 0 → ⊥) → (Done' → Done)
-    → Appends Member (OfBelow (IsBackAt n own links c) count) Done old new → Appends Member (IsToldBy n own links c) Done' old new
+    → Appends OneOf (OfBelow (IsBackAt n own links c) count) Done old new → Appends OneOf (IsToldBy n own links c) Done' old new
 told_end n own links c count Done Done' old new e some d a =
     otherwise (OfBelow (IsBackAt n own links c) count) (IsToldBy n own links c) Done Done' old new
     (λ note q. (q.2.3.0, q.2.3.1, inr (q.2.0, q.2.2, q.2.3.2)))
     (λ h note q. told note q.0 q.1 q.2) d a
   where
-    told : (note : Note) (f : LinkFact) → Member f links → IsToldTo n own c f note → OfBelow (IsBackAt n own links c) count note
+    told : (note : Note) (f : LinkFact) → OneOf f links → IsToldTo n own c f note → OfBelow (IsBackAt n own links c) count note
     told note f m (inl w) = absurd (some (e ∙ ap (λ (l : List Elem). length l) w.0))
     told note f m (inr w) = let at = member_at (Plain w.0) c w.1.isin in (at.0, omega (arith, at.1, e), (w.0, at.2 (Plain 0), w.1, (f, m, w.2)))
 
 -- an empty clause tells deads
 pub deads_end : (n : Normal) (own : List ℕ) (links : List LinkFact) (c : List Elem) (Done : Type 0) (old new : List Note) → c ≡ []
-    → Appends Member (OfOne (IsDeadNote own) links) Done old new → Appends Member (IsToldBy n own links c) Done old new
+    → Appends OneOf (OfOne (IsDeadNote own) links) Done old new → Appends OneOf (IsToldBy n own links c) Done old new
 deads_end n own links c Done old new e a =
     otherwise (OfOne (IsDeadNote own) links) (IsToldBy n own links c) Done Done old new
     (λ note q. (q.0, q.1, inl (e, q.2)))
     (λ h note q. told note q.0 q.1 q.2) (λ h. h) a
   where
-    told : (note : Note) (f : LinkFact) → Member f links → IsToldTo n own c f note → OfOne (IsDeadNote own) links note
+    told : (note : Note) (f : LinkFact) → OneOf f links → IsToldTo n own c f note → OfOne (IsDeadNote own) links note
     told note f m (inl w) = (f, m, w.1)
-    told note f m (inr w) = absurd (subst (λ (l : List Elem). Member (Plain w.0) l) e w.1.isin)
+    told note f m (inr w) = absurd (subst (λ (l : List Elem). OneOf (Plain w.0) l) e w.1.isin)
 
 -- ---- numbers
 
@@ -108,13 +108,13 @@ first_read [] l = absurd (omega arith)
 first_read (x ∷ xs) l = refl
 
 -- what stands from a place on, by places
-dropped_member : (xs : List ℕ) (i m : ℕ) → Member m (drop i xs) → (k : ℕ) × (i ≤ k) × (k < length xs) × (get_or xs k 0 ≡ m)
+dropped_member : (xs : List ℕ) (i m : ℕ) → OneOf m (drop i xs) → (k : ℕ) × (i ≤ k) × (k < length xs) × (get_or xs k 0 ≡ m)
 dropped_member [] zero m h = absurd h
 dropped_member [] (suc i) m h = absurd h
 dropped_member (x ∷ xs) zero m h = let w = member_at m (x ∷ xs) h in (w.0, omega arith, w.1, w.2 0)
 dropped_member (x ∷ xs) (suc i) m h = let w = dropped_member xs i m h in (suc w.0, omega (arith, w.1), omega (arith, w.2), w.3)
 
-member_dropped : (xs : List ℕ) (i k : ℕ) → i ≤ k → k < length xs → Member (get_or xs k 0) (drop i xs)
+member_dropped : (xs : List ℕ) (i k : ℕ) → i ≤ k → k < length xs → OneOf (get_or xs k 0) (drop i xs)
 member_dropped [] i k l h = absurd (omega arith)
 member_dropped (x ∷ xs) zero k l h = member_get (x ∷ xs) k 0 h
 member_dropped (x ∷ xs) (suc i) zero l h = absurd (omega arith)
@@ -134,33 +134,33 @@ pub from_point : (numbers : List ℕ) (least i : ℕ) → IsPartitionPoint (λ (
 from_point numbers least i p m = (
   λ h. (
       let w = dropped_member numbers i m h in (
-        subst (λ (k : ℕ). Member k numbers) w.3 (member_get numbers w.0 0 w.2),
+        subst (λ (k : ℕ). OneOf k numbers) w.3 (member_get numbers w.0 0 w.2),
         subst (λ (k : ℕ). least ≤ k) w.3 (ltb-false (get_or numbers w.0 0) least (p.1 w.0 0 w.1 w.2)),
       )),
   λ h. (
       let w = member_at m numbers h.0 in
       elim (cases_lt w.0 i) [
         | inl l ↦ (let under : get_or numbers w.0 0 < least = ltb-true (get_or numbers w.0 0) least (p.0 w.0 0 (omega arith) l) in absurd (omega (arith, under, w.2 0, h.1)))
-        | inr g ↦ subst (λ (k : ℕ). Member k (drop i numbers)) (w.2 0) (member_dropped numbers i w.0 g w.1)
+        | inr g ↦ subst (λ (k : ℕ). OneOf k (drop i numbers)) (w.2 0) (member_dropped numbers i w.0 g w.1)
       ]),
 )
 
 -- ---- all clauses
 
 -- what a live clause owes is owed
-pub owed_of_clause : (n : Normal) (s : State) (c : List Elem) → Member c (live_of s) → (note : Note) → IsOwedBy n s.key s.links c note → Owes n s note
+pub owed_of_clause : (n : Normal) (s : State) (c : List Elem) → OneOf c (live_of s) → (note : Note) → IsOwedBy n s.key s.links c note → Owes n s note
 owed_of_clause n s c m note (inl q) = owes_link q.0 q.1 c m q.2 q.3
 owed_of_clause n s c m note (inr q) = told q.0 q.1 q.2
   where
-    told : (f : LinkFact) → Member f s.links → IsToldTo n s.key c f note → Owes n s note
-    told f l (inl w) = owes_dead f.key f.role l (subst (λ (d : List Elem). Member d (live_of s)) w.0 m) w.1
+    told : (f : LinkFact) → OneOf f s.links → IsToldTo n s.key c f note → Owes n s note
+    told f l (inl w) = owes_dead f.key f.role l (subst (λ (d : List Elem). OneOf d (live_of s)) w.0 m) w.1
     told f l (inr w) =
         let u : IsOfUse n w.0 f.role = w.2.0 in
         owes_back f.key f.role c u.0 l m (subst (λ (a : ℕ). Eligible n (Plain a) c) (sym u.2) w.1) u.1 u.3
         (subst (λ (a : ℕ). note ≡ record { key = f.key; fact = Back f.role s.key a }) (sym u.2) w.2.1)
 
 -- what is owed is owed by a live clause
-pub clause_of_owed : (n : Normal) (s : State) (note : Note) → Owes n s note → (c : List Elem) × Member c (live_of s) × IsOwedBy n s.key s.links c note
+pub clause_of_owed : (n : Normal) (s : State) (note : Note) → Owes n s note → (c : List Elem) × OneOf c (live_of s) × IsOwedBy n s.key s.links c note
 clause_of_owed n s note (owes_link r k c m e q) = (c, m, inl (r, k, e, q))
 clause_of_owed n s note (owes_back h r c t l m e tm u q) = (c, m, inr (record { key = h; role = r }, l, inr (t.atom, e, ((t, tm, refl, u), q))))
 clause_of_owed n s note (owes_dead h r l m q) = ([], m, inr (record { key = h; role = r }, l, inl (refl, q)))
@@ -176,7 +176,7 @@ ToldByOne n own links clauses k note = IsToldBy n own links (get_or clauses k []
 module _ (n : Normal) (key : List ℕ) (clauses : List (List Elem)) (live : List ℕ) (backs : List BackFact) (deads : List DeadFact) where
   -- what is owed from a number on is all that became owed since
   pub sends_since : (links : List LinkFact) (stored : ℕ) (found : List ℕ) (Done : Type 0) (old new : List Note)
-      → AreFrom stored live found → Appends Member (OfOne (OwedByOne n key links clauses) found) Done old new
+      → AreFrom stored live found → Appends OneOf (OfOne (OwedByOne n key links clauses) found) Done old new
       → Sends n Done (Owes n (record { key = key; clauses = clauses; live = filter (λ k. nat_lt k stored) live; links = links; backs = backs; deads = deads }))
       (record { key = key; clauses = clauses; live = live; links = links; backs = backs; deads = deads }) old new
   sends_since links stored found Done old new from a =
@@ -199,7 +199,7 @@ module _ (n : Normal) (key : List ℕ) (clauses : List (List Elem)) (live : List
 
   -- what is told to a new link is all that became owed by it
   pub sends_link : (earlier : List LinkFact) (link : LinkFact) (Done : Type 0) (old new : List Note)
-      → Appends Member (OfOne (ToldByOne n key (link ∷ []) clauses) live) Done old new
+      → Appends OneOf (OfOne (ToldByOne n key (link ∷ []) clauses) live) Done old new
       → Sends n Done (Owes n (record { key = key; clauses = clauses; live = live; links = earlier; backs = backs; deads = deads }))
       (record { key = key; clauses = clauses; live = live; links = earlier ++ link ∷ []; backs = backs; deads = deads }) old new
   sends_link earlier link Done old new a =
@@ -217,7 +217,7 @@ module _ (n : Normal) (key : List ℕ) (clauses : List (List Elem)) (live : List
       before : State
       before = record { key = key; clauses = clauses; live = live; links = earlier; backs = backs; deads = deads }
 
-      came : Done → (note : Note) (c : List Elem) → Member c (picked clauses live) → IsOwedBy n key (earlier ++ link ∷ []) c note → Owes n before note ⊎ Member note a.added
+      came : Done → (note : Note) (c : List Elem) → OneOf c (picked clauses live) → IsOwedBy n key (earlier ++ link ∷ []) c note → Owes n before note ⊎ OneOf note a.added
       came h note c m (inl q) = inl (owed_of_clause n before c m note (inl q))
       came h note c m (inr q) = elim (member_cases q.0 earlier (link ∷ []) q.1) [
         | inl l ↦ inl (owed_of_clause n before c m note (inr (q.0, l, q.2)))
@@ -241,15 +241,15 @@ pub lists_owed : (n : Normal) (key : List ℕ) (clauses : List (List Elem)) (liv
     (owed old new : List Note) (Done : Type 0)
     → Sends n (true ≡ true) (Owes n (record { key = key; clauses = clauses; live = filter (λ k. nat_lt k 0) live; links = links; backs = backs; deads = deads }))
     (record { key = key; clauses = clauses; live = live; links = links; backs = backs; deads = deads }) [] owed
-    → AppendsOnce (λ note. Member note owed) Done old new
+    → AppendsOnce (λ note. OneOf note owed) Done old new
     → ListsOwed n Done (record { key = key; clauses = clauses; live = live; links = links; backs = backs; deads = deads }) old new
 lists_owed n key clauses live links backs deads owed old new Done s a = record {
   added = a.added;
   follows = a.follows;
-  only = λ note m. s.only note (subst (λ (l : List Note). Member note l) s.follows (a.only note m));
+  only = λ note m. s.only note (subst (λ (l : List Note). OneOf note l) s.follows (a.only note m));
   once = a.once;
   every = λ h note o. elim (s.every refl note o) [
     | inl w ↦ absurd (none_before n key clauses live links backs deads note w)
-    | inr m ↦ a.every h note (subst (λ (l : List Note). Member note l) (sym s.follows) m)
+    | inr m ↦ a.every h note (subst (λ (l : List Note). OneOf note l) (sym s.follows) m)
   ];
 }

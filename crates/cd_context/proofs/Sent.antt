@@ -2,7 +2,7 @@
 use Rattle.std.proofs.Common.{◌≡◌, ℕ, ◌<◌, inl, inr, Bool, true, List, [], ◌∷◌, ◌++◌, length, get_or, filter, nat_lt, refl, sym, ap, ◌∙◌, subst, arith}
 use Rattle.std.proofs.lemmas.Bool.{cond_both, ltb-true}
 use Rattle.std.proofs.lemmas.List.{get_or_append_left, append-nil}
-use Rattle.cd_base.specs.Lists.{Member}
+use Rattle.cd_base.specs.Lists.{OneOf}
 use Rattle.cd_base.specs.declared.normal.Normal.{Normal}
 use Rattle.cd_clause.specs.Numbers.{picked}
 use Rattle.cd_clause.specs.declared.elem.Elem.{Elem}
@@ -32,29 +32,29 @@ sends_less n W W' s out new_out f a = record {
   every = λ u note o. elim (a.every u note o) [ inl w ↦ inl (f note w) | inr m ↦ inr m ];
 }
 
-of_filtered : {X : Type 0} (p : X → Bool) (x : X) (xs : List X) → Member x (filter p xs) → Member x xs × (p x ≡ true)
+of_filtered : {X : Type 0} (p : X → Bool) (x : X) (xs : List X) → OneOf x (filter p xs) → OneOf x xs × (p x ≡ true)
 of_filtered p x [] m = absurd m
 of_filtered {X} p x (y ∷ xs) m =
-    cond_both (p y) (y ∷ filter p xs) (filter p xs) (λ (l : List X). Member x l → Member x (y ∷ xs) × (p x ≡ true))
+    cond_both (p y) (y ∷ filter p xs) (filter p xs) (λ (l : List X). OneOf x l → OneOf x (y ∷ xs) × (p x ≡ true))
     (λ t h. elim h [ inl e ↦ (inl e, ap p e ∙ t) | inr k ↦ (let r = of_filtered p x xs k in (inr r.0, r.1)) ])
     (λ t h. let r = of_filtered p x xs h in (inr r.0, r.1))
     m
 
 -- a live clause that was stored before was live before
-live_before : (old new : List (List Elem) × List ℕ) (stored : ℕ) → stored ≡ length old.0 → Continues old new → (c : List Elem) → Member c (picked new.0 (filter (λ k. nat_lt k stored) new.1)) → Member c (picked old.0 old.1)
+live_before : (old new : List (List Elem) × List ℕ) (stored : ℕ) → stored ≡ length old.0 → Continues old new → (c : List Elem) → OneOf c (picked new.0 (filter (λ k. nat_lt k stored) new.1)) → OneOf c (picked old.0 old.1)
 live_before old new stored e t c m =
     let r = picked_from new.0 (filter (λ k. nat_lt k stored) new.1) c m in
     let f = of_filtered (λ k. nat_lt k stored) r.0 new.1 r.1 in
     let a : r.0 < stored = ltb-true r.0 stored f.1 in
     let b : r.0 < length old.0 = omega arith in
-    subst (λ x. Member x (picked old.0 old.1)) (sym (r.2 ∙ ap (λ cs. get_or cs r.0 []) t.follows.1 ∙ get_or_append_left old.0 t.follows.0 [] r.0 b))
+    subst (λ x. OneOf x (picked old.0 old.1)) (sym (r.2 ∙ ap (λ cs. get_or cs r.0 []) t.follows.1 ∙ get_or_append_left old.0 t.follows.0 [] r.0 b))
     (picked_in old.0 old.1 r.0 (t.survivors r.0 f.0 b))
 
 -- what is owed for live clauses that are live in the other state too, towards the same links
-owed_for : (n : Normal) (s t : State) → s.key ≡ t.key → s.links ≡ t.links → ((c : List Elem) → Member c (live_of s) → Member c (live_of t)) → (note : Note) → Owes n s note → Owes n t note
+owed_for : (n : Normal) (s t : State) → s.key ≡ t.key → s.links ≡ t.links → ((c : List Elem) → OneOf c (live_of s) → OneOf c (live_of t)) → (note : Note) → Owes n s note → Owes n t note
 owed_for n s t k l f note (owes_link r key c m e q) = owes_link r key c (f c m) e (subst (λ w. note ≡ record { key = key; fact = Link w r }) k q)
-owed_for n s t k l f note (owes_back h r c x i m e a u q) = owes_back h r c x (subst (λ w. Member (record { key = h; role = r }) w) l i) (f c m) e a u (subst (λ w. note ≡ record { key = h; fact = Back r w x.atom }) k q)
-owed_for n s t k l f note (owes_dead h r i m q) = owes_dead h r (subst (λ w. Member (record { key = h; role = r }) w) l i) (f [] m) (subst (λ w. note ≡ record { key = h; fact = Dead r w }) k q)
+owed_for n s t k l f note (owes_back h r c x i m e a u q) = owes_back h r c x (subst (λ w. OneOf (record { key = h; role = r }) w) l i) (f c m) e a u (subst (λ w. note ≡ record { key = h; fact = Back r w x.atom }) k q)
+owed_for n s t k l f note (owes_dead h r i m q) = owes_dead h r (subst (λ w. OneOf (record { key = h; role = r }) w) l i) (f [] m) (subst (λ w. note ≡ record { key = h; fact = Dead r w }) k q)
 
 -- what the live clauses of before owe was owed before
 pub owed_after : (n : Normal) (old : State) (clauses : List (List Elem)) (live : List ℕ) (backs : List BackFact) (deads : List DeadFact) (stored : ℕ) → stored ≡ length old.clauses → Continues (old.clauses, old.live) (clauses, live)
@@ -64,12 +64,12 @@ owed_after n old clauses live backs deads stored e t note o =
     (live_before (old.clauses, old.live) (clauses, live) stored e t) note o
 
 -- what no clause owes
-pub owed_by_none : (n : Normal) (s : State) → ((c : List Elem) → Member c (live_of s) → ⊥) → (note : Note) → Owes n s note → ⊥
+pub owed_by_none : (n : Normal) (s : State) → ((c : List Elem) → OneOf c (live_of s) → ⊥) → (note : Note) → Owes n s note → ⊥
 owed_by_none n s none note (owes_link r key c m e q) = none c m
 owed_by_none n s none note (owes_back h r c x i m e a u q) = none c m
 owed_by_none n s none note (owes_dead h r i m q) = none [] m
 
-pub none_below_zero : (clauses : List (List Elem)) (live : List ℕ) (c : List Elem) → Member c (picked clauses (filter (λ k. nat_lt k 0) live)) → ⊥
+pub none_below_zero : (clauses : List (List Elem)) (live : List ℕ) (c : List Elem) → OneOf c (picked clauses (filter (λ k. nat_lt k 0) live)) → ⊥
 none_below_zero clauses live c m =
     let r = picked_from clauses (filter (λ k. nat_lt k 0) live) c m in
     let f = of_filtered (λ k. nat_lt k 0) r.0 live r.1 in

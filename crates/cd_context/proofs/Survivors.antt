@@ -5,7 +5,7 @@ use Rattle.std.specs.List.Sorted.{IsBinarySearchResult}
 use Rattle.std.specs.Ordering.{nat_cmp}
 use Rattle.std.proofs.lemmas.Bool.{cases_lt, false≢true}
 use Rattle.std.proofs.lemmas.List.Sorted.{searched}
-use Rattle.cd_base.specs.Lists.{Member}
+use Rattle.cd_base.specs.Lists.{OneOf}
 use Rattle.cd_base.proofs.Members.{member_get, member_at}
 use Rattle.cd_store.specs.Store.{IsAscending}
 
@@ -17,10 +17,10 @@ rises (x ∷ xs) (suc i) zero a l h = absurd (omega arith)
 rises (x ∷ xs) (suc i) (suc j) a l h = rises xs i j a.1 (omega arith) (omega arith)
 
 -- a search by halves finds what is there
-pub found : (xs : List ℕ) (x : ℕ) (r : Result ℕ ℕ) (b : Bool) → IsAscending xs → IsBinarySearchResult (λ y. nat_cmp y x) xs r → b ≡ is_ok r → (b ≡ true → Member x xs) × (Member x xs → b ≡ true)
+pub found : (xs : List ℕ) (x : ℕ) (r : Result ℕ ℕ) (b : Bool) → IsAscending xs → IsBinarySearchResult (λ y. nat_cmp y x) xs r → b ≡ is_ok r → (b ≡ true → OneOf x xs) × (OneOf x xs → b ≡ true)
 found xs x (Ok i) b a h e =
     let s = searched xs x (Ok i) h (λ i j l k. rises xs i j a l k) in
-    (λ t. subst (λ q. Member q xs) s.1 (member_get xs i 0 s.0), λ m. e)
+    (λ t. subst (λ q. OneOf q xs) s.1 (member_get xs i 0 s.0), λ m. e)
 found xs x (Err i) b a h e =
     let s = searched xs x (Err i) h (λ i j l k. rises xs i j a l k) in (
       λ t. absurd (false≢true (sym e ∙ t)),

@@ -2,7 +2,7 @@
 use Rattle.std.proofs.Common.{◌≡◌, ◌==◌, ℕ, ◌⊎◌, Bool, true, false, cond, inl, inr, List, [], ◌∷◌, get_or, refl, ap, sym, ◌∙◌, subst, arith, eq-eqb, eqb-true}
 use Rattle.std.proofs.lemmas.List.{get_or_append_left}
 use Rattle.std.proofs.lemmas.Bool.{cases_order, false≢true}
-use Rattle.cd_base.specs.Lists.{Member, Within}
+use Rattle.cd_base.specs.Lists.{OneOf, Within}
 use Rattle.cd_base.specs.declared.normal.Normal.{Normal}
 use Rattle.cd_base.proofs.Members.{any_by_member, any_member}
 use Rattle.cd_clause.specs.Derivations.{Redundant}
@@ -66,21 +66,21 @@ abbrev pub not_waiting : List ℕ → List ℕ → List ℕ
 not_waiting [] waiting = []
 not_waiting (k ∷ live) waiting = cond (has k waiting) (not_waiting live waiting) (k ∷ not_waiting live waiting)
 
-pub not_waiting_in : (live waiting : List ℕ) (k : ℕ) → Member k (not_waiting live waiting) → Member k live × (Member k waiting → ⊥)
+pub not_waiting_in : (live waiting : List ℕ) (k : ℕ) → OneOf k (not_waiting live waiting) → OneOf k live × (OneOf k waiting → ⊥)
 not_waiting_in [] waiting k m = absurd m
 not_waiting_in (j ∷ live) waiting k m = by (has j waiting) refl m (not_waiting_in live waiting k)
   where
-    by : (b : Bool) → has j waiting ≡ b → Member k (cond b (not_waiting live waiting) (j ∷ not_waiting live waiting)) → (Member k (not_waiting live waiting) → Member k live × (Member k waiting → ⊥)) → Member k (j ∷ live) × (Member k waiting → ⊥)
+    by : (b : Bool) → has j waiting ≡ b → OneOf k (cond b (not_waiting live waiting) (j ∷ not_waiting live waiting)) → (OneOf k (not_waiting live waiting) → OneOf k live × (OneOf k waiting → ⊥)) → OneOf k (j ∷ live) × (OneOf k waiting → ⊥)
     by true e m h = let r = h m in (inr r.0, r.1)
-    by false e (inl q) h = (inl q, λ w. false≢true (sym e ∙ any_by_member (λ (a : ℕ). a == j) waiting j (subst (λ z. Member z waiting) q w) (eq-eqb j j refl)))
+    by false e (inl q) h = (inl q, λ w. false≢true (sym e ∙ any_by_member (λ (a : ℕ). a == j) waiting j (subst (λ z. OneOf z waiting) q w) (eq-eqb j j refl)))
     by false e (inr m) h = let r = h m in (inr r.0, r.1)
 
-in_not_waiting : (live waiting : List ℕ) (k : ℕ) → Member k live → (Member k waiting → ⊥) → Member k (not_waiting live waiting)
+in_not_waiting : (live waiting : List ℕ) (k : ℕ) → OneOf k live → (OneOf k waiting → ⊥) → OneOf k (not_waiting live waiting)
 in_not_waiting [] waiting k m n = absurd m
 in_not_waiting (j ∷ live) waiting k m n = by (has j waiting) refl m (in_not_waiting live waiting k)
   where
-    by : (b : Bool) → has j waiting ≡ b → Member k (j ∷ live) → (Member k live → (Member k waiting → ⊥) → Member k (not_waiting live waiting)) → Member k (cond b (not_waiting live waiting) (j ∷ not_waiting live waiting))
-    by true e (inl q) h = let w = any_member (λ (a : ℕ). a == j) waiting e in absurd (n (subst (λ z. Member z waiting) (eqb-true w.0 j w.2 ∙ sym q) w.1))
+    by : (b : Bool) → has j waiting ≡ b → OneOf k (j ∷ live) → (OneOf k live → (OneOf k waiting → ⊥) → OneOf k (not_waiting live waiting)) → OneOf k (cond b (not_waiting live waiting) (j ∷ not_waiting live waiting))
+    by true e (inl q) h = let w = any_member (λ (a : ℕ). a == j) waiting e in absurd (n (subst (λ z. OneOf z waiting) (eqb-true w.0 j w.2 ∙ sym q) w.1))
     by true e (inr m) h = h m n
     by false e (inl q) h = inl q
     by false e (inr m) h = inr (h m n)
@@ -92,7 +92,7 @@ taken_live n key told clauses live waiting after m out closed taken every d q =
     elim (split n key (IsTakenUp clauses live after) (IsPicked clauses (m ∷ not_waiting live waiting)) (IsTakenUp clauses live waiting) (IsBack told.backs) (IsDead told.deads) (get_or clauses m [])
     (λ c h. elim (number_cases h.0 m) [
       | inl e ↦ inl (h.3 ∙ ap (λ i. get_or clauses i []) e)
-      | inr differ ↦ inr (subst (λ x. Member x (picked clauses (not_waiting live waiting))) (sym h.3) (picked_in clauses (not_waiting live waiting) h.0
+      | inr differ ↦ inr (subst (λ x. OneOf x (picked clauses (not_waiting live waiting))) (sym h.3) (picked_in clauses (not_waiting live waiting) h.0
           (in_not_waiting live waiting h.0 h.1 (λ w. elim (taken.before h.0 w) [ inl e ↦ differ e | inr a ↦ h.2 a ]))))
     ])
     (λ c h. elim (number_cases h.0 m) [
@@ -105,10 +105,10 @@ taken_live n key told clauses live waiting after m out closed taken every d q =
 
 -- a number that is dead is dropped
 pub taken_dead : (n : Normal) (key : List ℕ) (told : Told) (clauses : List (List Elem)) (live waiting after : List ℕ) (m : ℕ) → ClosedUpTo n key told clauses live waiting []
-    → IsTakenFrom m waiting after → (Member m live → ⊥) → ClosedUpTo n key told clauses live after []
+    → IsTakenFrom m waiting after → (OneOf m live → ⊥) → ClosedUpTo n key told clauses live after []
 taken_dead n key told clauses live waiting after m closed taken gone d q =
     closed d (more_from n key told (IsTakenUp clauses live after) (IsTakenUp clauses live waiting) d
-    (λ c h. (h.0, h.1, (λ w. elim (taken.before h.0 w) [ inl e ↦ gone (subst (λ i. Member i live) e h.1) | inr a ↦ h.2 a ]), h.3)) q)
+    (λ c h. (h.0, h.1, (λ w. elim (taken.before h.0 w) [ inl e ↦ gone (subst (λ i. OneOf i live) e h.1) | inr a ↦ h.2 a ]), h.3)) q)
 
 -- a conclusion that is held already
 pub out_held : (n : Normal) (key : List ℕ) (told : Told) (clauses : List (List Elem)) (live waiting : List ℕ) (o : List Elem) (out : List (List Elem)) → ClosedUpTo n key told clauses live waiting (o ∷ out)
@@ -120,7 +120,7 @@ out_held n key told clauses live waiting o out closed r d q = elim (closed d q) 
 
 -- a conclusion that is stored, and waits
 pub out_new : (n : Normal) (key : List ℕ) (told : Told) (old new : List (List Elem) × List ℕ) (waiting after : List ℕ) (o : List Elem) (k : ℕ) (out : List (List Elem))
-    → ClosedUpTo n key told old.0 old.1 waiting (o ∷ out) → IsNew old o new k → ((m : ℕ) → (m ≡ k) ⊎ Member m waiting → Member m after) → ClosedUpTo n key told new.0 new.1 after out
+    → ClosedUpTo n key told old.0 old.1 waiting (o ∷ out) → IsNew old o new k → ((m : ℕ) → (m ≡ k) ⊎ OneOf m waiting → OneOf m after) → ClosedUpTo n key told new.0 new.1 after out
 out_new n key told old new waiting after o k out closed s waits d q =
     elim (closed d (more_from n key told (IsTakenUp new.0 new.1 after) (IsTakenUp old.0 old.1 waiting) d
     (λ c h. elim (s.numbers h.0 h.1) [
@@ -141,7 +141,7 @@ out_new n key told old new waiting after o k out closed s waits d q =
 
 -- where nothing waits, each conclusion from live clauses is redundant
 pub none_waits : (n : Normal) (key : List ℕ) (told : Told) (clauses : List (List Elem)) (live : List ℕ) → ClosedUpTo n key told clauses live [] []
-    → (d : List Elem) → ConcludesFrom n key (λ c. Member c (picked clauses live)) told.backs told.deads d → Redundant (picked clauses live) d
+    → (d : List Elem) → ConcludesFrom n key (λ c. OneOf c (picked clauses live)) told.backs told.deads d → Redundant (picked clauses live) d
 none_waits n key told clauses live closed d q =
-    elim (closed d (more_from n key told (λ c. Member c (picked clauses live)) (IsTakenUp clauses live []) d
+    elim (closed d (more_from n key told (λ c. OneOf c (picked clauses live)) (IsTakenUp clauses live []) d
     (λ c h. let r = picked_from clauses live c h in (r.0, r.1, (λ w. absurd w), r.2)) q)) [ inl r ↦ r | inr z ↦ absurd z.1 ]

@@ -1,6 +1,6 @@
 -- A context is told one more back or dead.
 use Rattle.std.proofs.Common.{◌≡◌, ℕ, ◌<◌, ◌⊎◌, inl, inr, List, [], ◌∷◌, ◌++◌, length, reverse, sym, ap, subst}
-use Rattle.cd_base.specs.Lists.{Member}
+use Rattle.cd_base.specs.Lists.{OneOf}
 use Rattle.cd_base.specs.declared.normal.Normal.{Normal}
 use Rattle.cd_base.proofs.Members.{member_right, member_cases, member_get}
 use Rattle.cd_clause.specs.Derivations.{Redundant}
@@ -18,28 +18,28 @@ use Rattle.cd_context.specs.TakeUp.{Told, IsTakenUp, ClosedUpTo}
 
 -- a conclusion from more clauses and more facts
 pub concludes_from_more : (n : Normal) (key : List ℕ) (old new : Told) (Has Has' : List Elem → Type 0) (d : List Elem) → ((c : List Elem) → Has c → Has' c)
-    → ((f : BackFact) → Member f old.backs → Member f new.backs) → ((f : DeadFact) → Member f old.deads → Member f new.deads)
+    → ((f : BackFact) → OneOf f old.backs → OneOf f new.backs) → ((f : DeadFact) → OneOf f old.deads → OneOf f new.deads)
     → ConcludesFrom n key Has old.backs old.deads d → ConcludesFrom n key Has' new.backs new.deads d
 concludes_from_more n key old new Has Has' d h b e q =
     concludes_more n key Has Has' (IsBack old.backs) (IsBack new.backs) (IsDead old.deads) (IsDead new.deads) d h (λ r k a m. b (record { role = r; key = k; atom = a }) m) (λ r k m. e (record { role = r; key = k }) m) q
 
 -- what was stored in turn is so where more is told
-in_turn_list : (n : Normal) (key : List ℕ) (old new : Told) (clauses : List (List Elem)) → ((f : BackFact) → Member f old.backs → Member f new.backs) → ((f : DeadFact) → Member f old.deads → Member f new.deads)
+in_turn_list : (n : Normal) (key : List ℕ) (old new : Told) (clauses : List (List Elem)) → ((f : BackFact) → OneOf f old.backs → OneOf f new.backs) → ((f : DeadFact) → OneOf f old.deads → OneOf f new.deads)
     → StoredInTurn n key old.backs old.deads clauses → StoredInTurn n key new.backs new.deads clauses
 in_turn_list n key old new [] b e s = tt
-in_turn_list n key old new (c ∷ cs) b e s = (concludes_from_more n key old new (λ d. Member d cs) (λ d. Member d cs) c (λ d m. m) b e s.0, in_turn_list n key old new cs b e s.1)
+in_turn_list n key old new (c ∷ cs) b e s = (concludes_from_more n key old new (λ d. OneOf d cs) (λ d. OneOf d cs) c (λ d m. m) b e s.0, in_turn_list n key old new cs b e s.1)
 
-pub in_turn_told : (n : Normal) (key : List ℕ) (old new : Told) (clauses : List (List Elem)) → ((f : BackFact) → Member f old.backs → Member f new.backs) → ((f : DeadFact) → Member f old.deads → Member f new.deads)
+pub in_turn_told : (n : Normal) (key : List ℕ) (old new : Told) (clauses : List (List Elem)) → ((f : BackFact) → OneOf f old.backs → OneOf f new.backs) → ((f : DeadFact) → OneOf f old.deads → OneOf f new.deads)
     → IsInTurn n key old.backs old.deads clauses → IsInTurn n key new.backs new.deads clauses
 in_turn_told n key old new clauses b e s = in_turn_list n key old new (reverse clauses) b e s
 
 -- clauses of numbers in range are stored
-stored_of : (clauses : List (List Elem)) (live : List ℕ) → ((k : ℕ) → Member k live → k < length clauses) → (c : List Elem) → IsPicked clauses live c → Member c clauses
-stored_of clauses live range c h = let r = picked_from clauses live c h in subst (λ x. Member x clauses) (sym r.2) (member_get clauses r.0 [] (range r.0 r.1))
+stored_of : (clauses : List (List Elem)) (live : List ℕ) → ((k : ℕ) → OneOf k live → k < length clauses) → (c : List Elem) → IsPicked clauses live c → OneOf c clauses
+stored_of clauses live range c h = let r = picked_from clauses live c h in subst (λ x. OneOf x clauses) (sym r.2) (member_get clauses r.0 [] (range r.0 r.1))
 
 -- what was taken up is live
 live_of_taken : (clauses : List (List Elem)) (live waiting : List ℕ) (c : List Elem) → IsTakenUp clauses live waiting c → IsPicked clauses live c
-live_of_taken clauses live waiting c t = subst (λ x. Member x (picked clauses live)) (sym t.3) (picked_in clauses live t.0 t.1)
+live_of_taken clauses live waiting c t = subst (λ x. OneOf x (picked clauses live)) (sym t.3) (picked_in clauses live t.0 t.1)
 
 -- A back comes.
 module _ (n : Normal) (key : List ℕ) (Has : List Elem → Type 0) (backs : List BackFact) (deads : List DeadFact) (f : BackFact) where
@@ -69,10 +69,10 @@ closed_after_back n key backs new deads f clauses live out e closed every d q =
 
 -- what is concluded by the back is concluded from what is stored and told
 pub concluded_by_back : (n : Normal) (key : List ℕ) (backs new : List BackFact) (deads : List DeadFact) (f : BackFact) (clauses : List (List Elem)) (live : List ℕ) → new ≡ backs ++ f ∷ []
-    → ((k : ℕ) → Member k live → k < length clauses) → (d : List Elem) → FromBack n key clauses live f d → ConcludesFrom n key (λ c. Member c clauses) new deads d
+    → ((k : ℕ) → OneOf k live → k < length clauses) → (d : List Elem) → FromBack n key clauses live f d → ConcludesFrom n key (λ c. OneOf c clauses) new deads d
 concluded_by_back n key backs new deads f clauses live e range d q =
-    concludes_from_more n key (record { backs = f ∷ []; deads = [] }) (record { backs = new; deads = deads }) (IsPicked clauses live) (λ c. Member c clauses) d (stored_of clauses live range)
-    (λ x m. subst (λ w. Member x w) (sym e) (member_right x backs (f ∷ []) m)) (λ x m. absurd m) q.0
+    concludes_from_more n key (record { backs = f ∷ []; deads = [] }) (record { backs = new; deads = deads }) (IsPicked clauses live) (λ c. OneOf c clauses) d (stored_of clauses live range)
+    (λ x m. subst (λ w. OneOf x w) (sym e) (member_right x backs (f ∷ []) m)) (λ x m. absurd m) q.0
 
 -- A dead comes.
 module _ (n : Normal) (key : List ℕ) (Has : List Elem → Type 0) (backs : List BackFact) (deads : List DeadFact) (f : DeadFact) where
@@ -102,21 +102,21 @@ closed_after_dead n key backs deads new f clauses live out e closed every d q =
 
 -- what is concluded by the dead is concluded from what is stored and told
 pub concluded_by_dead : (n : Normal) (key : List ℕ) (backs : List BackFact) (deads new : List DeadFact) (f : DeadFact) (clauses : List (List Elem)) (live : List ℕ) → new ≡ deads ++ f ∷ []
-    → ((k : ℕ) → Member k live → k < length clauses) → (d : List Elem) → FromDead n key clauses live f d → ConcludesFrom n key (λ c. Member c clauses) backs new d
+    → ((k : ℕ) → OneOf k live → k < length clauses) → (d : List Elem) → FromDead n key clauses live f d → ConcludesFrom n key (λ c. OneOf c clauses) backs new d
 concluded_by_dead n key backs deads new f clauses live e range d q =
-    concludes_from_more n key (record { backs = []; deads = f ∷ [] }) (record { backs = backs; deads = new }) (IsPicked clauses live) (λ c. Member c clauses) d (stored_of clauses live range)
-    (λ x m. absurd m) (λ x m. subst (λ w. Member x w) (sym e) (member_right x deads (f ∷ []) m)) q.0
+    concludes_from_more n key (record { backs = []; deads = f ∷ [] }) (record { backs = backs; deads = new }) (IsPicked clauses live) (λ c. OneOf c clauses) d (stored_of clauses live range)
+    (λ x m. absurd m) (λ x m. subst (λ w. OneOf x w) (sym e) (member_right x deads (f ∷ []) m)) q.0
 
 -- A new context: of no clause, it is closed but for what needs no premise.
 pub closed_at_first : (n : Normal) (key : List ℕ) (store : List (List Elem) × List ℕ) (backs : List BackFact) (deads : List DeadFact) (out : List (List Elem)) → store ≡ ([], []) → backs ≡ [] → deads ≡ []
     → ((d : List Elem) → FromKey n key d → Redundant out d) → ClosedUpTo n key (record { backs = backs; deads = deads }) store.0 store.1 [] out
 closed_at_first n key store backs deads out e b k every d q =
     inr (every d (concludes_more n key (IsTakenUp store.0 store.1 []) (λ c. ⊥) (IsBack backs) (λ r k a. ⊥) (IsDead deads) (λ r k. ⊥) d
-    (λ c t. subst (λ w. Member t.0 w) (ap (λ w. w.1) e) t.1) (λ r h a m. subst (λ w. IsBack w r h a) b m) (λ r h m. subst (λ w. IsDead w r h) k m) q))
+    (λ c t. subst (λ w. OneOf t.0 w) (ap (λ w. w.1) e) t.1) (λ r h a m. subst (λ w. IsBack w r h a) b m) (λ r h m. subst (λ w. IsDead w r h) k m) q))
 
-pub concluded_at_first : (n : Normal) (key : List ℕ) (clauses : List (List Elem)) (backs : List BackFact) (deads : List DeadFact) (d : List Elem) → FromKey n key d → ConcludesFrom n key (λ c. Member c clauses) backs deads d
+pub concluded_at_first : (n : Normal) (key : List ℕ) (clauses : List (List Elem)) (backs : List BackFact) (deads : List DeadFact) (d : List Elem) → FromKey n key d → ConcludesFrom n key (λ c. OneOf c clauses) backs deads d
 concluded_at_first n key clauses backs deads d q =
-    concludes_more n key (λ c. ⊥) (λ c. Member c clauses) (λ r k a. ⊥) (IsBack backs) (λ r k. ⊥) (IsDead deads) d (λ c z. absurd z) (λ r k a z. absurd z) (λ r k z. absurd z) q
+    concludes_more n key (λ c. ⊥) (λ c. OneOf c clauses) (λ r k a. ⊥) (IsBack backs) (λ r k. ⊥) (IsDead deads) d (λ c z. absurd z) (λ r k a z. absurd z) (λ r k z. absurd z) q
 
 -- the same facts under other names
 pub in_turn_at : (n : Normal) (key : List ℕ) (backs backs' : List BackFact) (deads deads' : List DeadFact) (clauses : List (List Elem)) → backs ≡ backs' → deads ≡ deads' → IsInTurn n key backs deads clauses → IsInTurn n key backs' deads' clauses

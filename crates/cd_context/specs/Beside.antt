@@ -1,6 +1,6 @@
 -- Which clauses can be of use beside a premise.
 use Rattle.std.specs.Prelude.{◌≡◌, ℕ, ◌<◌, ◌⊎◌, List, length, slice_index_or}
-use Rattle.cd_base.specs.Lists.{Member, Within}
+use Rattle.cd_base.specs.Lists.{OneOf, Within}
 use Rattle.cd_base.specs.declared.normal.Normal.{Normal}
 use Rattle.cd_base.specs.declared.normal.Triple.{Triple}
 use Rattle.cd_clause.specs.Derivations.{Redundant}
@@ -22,11 +22,11 @@ IsHad clauses e = (m : ℕ) × HasElem clauses e m
 
 -- By Con with this left side, of which each atom but one occurrence of `a` stands in some clause: the clause has one of these.
 abbrev pub IsBesideLeft : List (List Elem) → ℕ → List ℕ → ℕ → Type 0
-IsBesideLeft clauses a left m = (taken : List ℕ) × IsWithoutOne a left taken × ((b : ℕ) → Member b taken → IsHad clauses (Plain b)) × ((b : ℕ) × Member b taken × HasElem clauses (Plain b) m)
+IsBesideLeft clauses a left m = (taken : List ℕ) × IsWithoutOne a left taken × ((b : ℕ) → OneOf b taken → IsHad clauses (Plain b)) × ((b : ℕ) × OneOf b taken × HasElem clauses (Plain b) m)
 
 -- by Con with one of these axioms
 abbrev pub IsBesideByOne : Normal → List (List Elem) → ℕ → List ℕ → ℕ → Type 0
-IsBesideByOne n clauses a numbers m = (k : ℕ) × Member k numbers × IsBesideLeft clauses a (left_of n.n1 k) m
+IsBesideByOne n clauses a numbers m = (k : ℕ) × OneOf k numbers × IsBesideLeft clauses a (left_of n.n1 k) m
 
 -- by Con with any axiom
 abbrev pub IsBesideByCon : Normal → List (List Elem) → ℕ → ℕ → Type 0
@@ -38,19 +38,19 @@ IsBesideByFiled n filed clauses a at m = (at < n.atoms) × IsBesideByOne n claus
 
 -- by All, where the premise has an atom with an axiom: the clause has an existential
 abbrev pub IsBesideUniversal : Normal → List (List Elem) → ℕ → ℕ → Type 0
-IsBesideUniversal n clauses a m = ((t : Triple) × Member t n.n4 × (t.atom ≡ a)) × HasExistential clauses m
+IsBesideUniversal n clauses a m = ((t : Triple) × OneOf t n.n4 × (t.atom ≡ a)) × HasExistential clauses m
 
 -- by All, where the premise has an existential: the clause has an atom with an axiom
 abbrev pub IsBesideExist : Normal → List (List Elem) → ℕ → Type 0
-IsBesideExist n clauses m = (t : Triple) × Member t n.n4 × HasElem clauses (Plain t.atom) m
+IsBesideExist n clauses m = (t : Triple) × OneOf t n.n4 × HasElem clauses (Plain t.atom) m
 
 -- by All, where this atom has an axiom
 abbrev pub IsBesideByUniversal : Normal → List (List Elem) → ℕ → ℕ → Type 0
-IsBesideByUniversal n clauses a m = ((t : Triple) × Member t n.n4 × (t.atom ≡ a)) × HasElem clauses (Plain a) m
+IsBesideByUniversal n clauses a m = ((t : Triple) × OneOf t n.n4 × (t.atom ≡ a)) × HasElem clauses (Plain a) m
 
 -- each atom of the stored clauses has its number among these
 abbrev pub HasAllAtoms : List (List Elem) → List ℕ → Type 0
-HasAllAtoms clauses numbers = (a n : ℕ) → HasElem clauses (Plain a) n → Member a numbers
+HasAllAtoms clauses numbers = (a n : ℕ) → HasElem clauses (Plain a) n → OneOf a numbers
 
 -- the clause can be of use beside this element of a premise
 abbrev pub IsBeside : Normal → List (List Elem) → Elem → ℕ → Type 0
@@ -63,7 +63,7 @@ IsBesideAt n clauses c i m = Eligible n (slice_index_or c i (Plain 0)) c × IsBe
 
 -- live numbers that don't wait
 abbrev pub AreTakenUp : List ℕ → List ℕ → List ℕ → Type 0
-AreTakenUp live waiting taken = Within taken live × ((k : ℕ) → Member k taken → Member k waiting → ⊥)
+AreTakenUp live waiting taken = Within taken live × ((k : ℕ) → OneOf k taken → OneOf k waiting → ⊥)
 
 -- each conclusion from the premise and clauses that were taken up is redundant among these
 abbrev pub HasConcluded : Normal → List ℕ → Told → List (List Elem) → List ℕ → List ℕ → ℕ → List (List Elem) → Type 0

@@ -1,6 +1,6 @@
 -- When a fact may come to a context, and what a context then keeps.
 use Rattle.std.specs.Prelude.{◌≡◌, ℕ, true, List, [], ◌∷◌, reverse}
-use Rattle.cd_base.specs.Lists.{Member, IsApart}
+use Rattle.cd_base.specs.Lists.{OneOf, HasNoRepeats}
 use Rattle.cd_base.specs.Keys.{plain, is_named}
 use Rattle.cd_base.specs.declared.normal.Normal.{Normal}
 use Rattle.cd_clause.specs.declared.elem.Elem.{Elem}
@@ -26,7 +26,7 @@ Justified n key (Dead r k) = Reachable n key × HasDerived n key (Exist r k) × 
 -- each clause is the conclusion of a rule from those after it and from these facts; the newest stands first
 abbrev pub StoredInTurn : Normal → List ℕ → List BackFact → List DeadFact → List (List Elem) → Type 0
 StoredInTurn n key backs deads [] = Unit {0}
-StoredInTurn n key backs deads (c ∷ cs) = ConcludesFrom n key (λ d. Member d cs) backs deads c × StoredInTurn n key backs deads cs
+StoredInTurn n key backs deads (c ∷ cs) = ConcludesFrom n key (λ d. OneOf d cs) backs deads c × StoredInTurn n key backs deads cs
 
 -- each clause is the conclusion of a rule from clauses stored before it and from these facts
 abbrev pub IsInTurn : Normal → List ℕ → List BackFact → List DeadFact → List (List Elem) → Type 0
@@ -36,22 +36,22 @@ IsInTurn n key backs deads clauses = StoredInTurn n key backs deads (reverse cla
 -- each clause is concluded from what was there before it, and none contains one stored before it
 pub record IsContext (n : Normal) (s : State) : Type 0 where
   pub reachable : Reachable n s.key
-  pub links : (h : List ℕ) (r : ℕ) → Member (record { key = h; role = r }) s.links → Justified n s.key (Link h r)
-  pub backs : (r : ℕ) (k : List ℕ) (a : ℕ) → Member (record { role = r; key = k; atom = a }) s.backs → Justified n s.key (Back r k a)
-  pub deads : (r : ℕ) (k : List ℕ) → Member (record { role = r; key = k }) s.deads → Justified n s.key (Dead r k)
-  pub links_once : IsApart s.links
-  pub backs_once : IsApart s.backs
-  pub deads_once : IsApart s.deads
+  pub links : (h : List ℕ) (r : ℕ) → OneOf (record { key = h; role = r }) s.links → Justified n s.key (Link h r)
+  pub backs : (r : ℕ) (k : List ℕ) (a : ℕ) → OneOf (record { role = r; key = k; atom = a }) s.backs → Justified n s.key (Back r k a)
+  pub deads : (r : ℕ) (k : List ℕ) → OneOf (record { role = r; key = k }) s.deads → Justified n s.key (Dead r k)
+  pub links_once : HasNoRepeats s.links
+  pub backs_once : HasNoRepeats s.backs
+  pub deads_once : HasNoRepeats s.deads
   pub in_turn : IsInTurn n s.key s.backs s.deads s.clauses
   pub store : IsStore s.clauses s.live
 
 -- each conclusion from its live clauses and its facts is redundant there
 abbrev pub ClosedLocally : Normal → State → Type 0
-ClosedLocally n s = (d : List Elem) → ConcludesFrom n s.key (λ c. Member c (live_of s)) s.backs s.deads d → Redundant (live_of s) d
+ClosedLocally n s = (d : List Elem) → ConcludesFrom n s.key (λ c. OneOf c (live_of s)) s.backs s.deads d → Redundant (live_of s) d
 
 -- what a context stores is derived
 abbrev pub StoredDerived : Type 0
-StoredDerived = (n : Normal) (s : State) → IsContext n s → (c : List Elem) → Member c s.clauses → Derived n s.key c
+StoredDerived = (n : Normal) (s : State) → IsContext n s → (c : List Elem) → OneOf c s.clauses → Derived n s.key c
 
 -- what a context owes goes to a key that can be reached, and is justified there
 abbrev pub OwedJustified : Type 0

@@ -1,6 +1,6 @@
 -- What one clause, one of its elements or one link adds to what a context owes. `own` is the key of the context.
 use Rattle.std.specs.Prelude.{◌≡◌, ℕ, ◌≤◌, ◌⊎◌, ◌↔◌, List, [], slice_index_or}
-use Rattle.cd_base.specs.Lists.{Member}
+use Rattle.cd_base.specs.Lists.{OneOf}
 use Rattle.cd_base.specs.Normal.{Under}
 use Rattle.cd_base.specs.declared.normal.Normal.{Normal}
 use Rattle.cd_base.specs.declared.normal.Triple.{Triple}
@@ -13,15 +13,15 @@ use Rattle.cd_context.specs.declared.facts.Note.{Note}
 
 -- these are the numbers that are at least `least`
 abbrev pub AreFrom : ℕ → List ℕ → List ℕ → Type 0
-AreFrom least numbers found = (m : ℕ) → Member m found ↔ (Member m numbers × (least ≤ m))
+AreFrom least numbers found = (m : ℕ) → OneOf m found ↔ (OneOf m numbers × (least ≤ m))
 
 -- the role is under that of one of these axioms
 abbrev pub IsUnderOne : Normal → List Triple → ℕ → Type 0
-IsUnderOne n axioms r = (t : Triple) × Member t axioms × Under n.n5 r t.role
+IsUnderOne n axioms r = (t : Triple) × OneOf t axioms × Under n.n5 r t.role
 
 -- some axiom makes the atom of use to a context that has an edge of this role to it
 abbrev pub IsOfUse : Normal → ℕ → ℕ → Type 0
-IsOfUse n a r = (t : Triple) × Member t n.n3 × (t.atom ≡ a) × Under n.n5 r t.role
+IsOfUse n a r = (t : Triple) × OneOf t n.n3 × (t.atom ≡ a) × Under n.n5 r t.role
 
 -- a link to the context of an existential
 abbrev pub IsLinkNote : List ℕ → ℕ → List ℕ → Note → Type 0
@@ -46,7 +46,7 @@ IsLinkAt n own c i note = (r : ℕ) × (k : List ℕ) × (slice_index_or c i (Pl
 -- the back for the atom at this place, where it is eligible, to one of these links
 abbrev pub IsBackAt : Normal → List ℕ → List LinkFact → List Elem → ℕ → Note → Type 0
 IsBackAt n own links c i note =
-    (a : ℕ) × (slice_index_or c i (Plain 0) ≡ Plain a) × Eligible n (Plain a) c × ((f : LinkFact) × Member f links × IsUsefulBack n own a f note)
+    (a : ℕ) × (slice_index_or c i (Plain 0) ≡ Plain a) × Eligible n (Plain a) c × ((f : LinkFact) × OneOf f links × IsUsefulBack n own a f note)
 
 -- the link for an eligible existential of the clause
 abbrev pub IsLinkOf : Normal → List ℕ → List Elem → Note → Type 0
@@ -58,7 +58,7 @@ IsToldTo n own c f note = ((c ≡ []) × IsDeadNote own f note) ⊎ ((a : ℕ) �
 
 -- the same to one of these links
 abbrev pub IsToldBy : Normal → List ℕ → List LinkFact → List Elem → Note → Type 0
-IsToldBy n own links c note = (f : LinkFact) × Member f links × IsToldTo n own c f note
+IsToldBy n own links c note = (f : LinkFact) × OneOf f links × IsToldTo n own c f note
 
 -- what the clause owes
 abbrev pub IsOwedBy : Normal → List ℕ → List LinkFact → List Elem → Note → Type 0

@@ -1,6 +1,6 @@
 -- The loop that closes a context: stored clauses wait to be taken up as premises.
 use Rattle.std.specs.Prelude.{◌≡◌, ℕ, ◌+◌, ◌-◌, ◌<◌, ◌≤◌, ◌⊎◌, List, [], ◌++◌, length, slice_index_or}
-use Rattle.cd_base.specs.Lists.{Member}
+use Rattle.cd_base.specs.Lists.{OneOf}
 use Rattle.cd_base.specs.declared.normal.Normal.{Normal}
 use Rattle.cd_clause.specs.declared.elem.Elem.{Elem}
 use Rattle.cd_clause.specs.Derivations.{Redundant}
@@ -17,7 +17,7 @@ pub record Told : Type 0 where
 
 -- a live clause that doesn't wait any more
 abbrev pub IsTakenUp : List (List Elem) → List ℕ → List ℕ → List Elem → Type 0
-IsTakenUp clauses live waiting c = (k : ℕ) × Member k live × (Member k waiting → ⊥) × (c ≡ slice_index_or clauses k [])
+IsTakenUp clauses live waiting c = (k : ℕ) × OneOf k live × (OneOf k waiting → ⊥) × (c ≡ slice_index_or clauses k [])
 
 -- each conclusion from clauses that were taken up is redundant, or is to be added yet
 abbrev pub ClosedUpTo : Normal → List ℕ → Told → List (List Elem) → List ℕ → List ℕ → List (List Elem) → Type 0
@@ -26,20 +26,20 @@ ClosedUpTo n key told clauses live waiting out =
 
 -- one of the numbers that wait is no longer there
 pub record IsTakenFrom (n : ℕ) (old new : List ℕ) : Type 0 where
-  pub before : (m : ℕ) → Member m old → (m ≡ n) ⊎ Member m new
-  pub after : (m : ℕ) → Member m new → Member m old
+  pub before : (m : ℕ) → OneOf m old → (m ≡ n) ⊎ OneOf m new
+  pub after : (m : ℕ) → OneOf m new → OneOf m old
   pub count : length old ≡ length new + 1
 
 -- one number more waits
 pub record IsPutInto (n : ℕ) (old new : List ℕ) : Type 0 where
-  pub isin : (m : ℕ) → (m ≡ n) ⊎ Member m old → Member m new
-  pub only : (m : ℕ) → Member m new → (m ≡ n) ⊎ Member m old
+  pub isin : (m : ℕ) → (m ≡ n) ⊎ OneOf m old → OneOf m new
+  pub only : (m : ℕ) → OneOf m new → (m ≡ n) ⊎ OneOf m old
   pub count : length new ≡ length old + 1
 
 -- clauses are stored in turn, and those that wait are stored
 pub record IsWorking (n : Normal) (key : List ℕ) (told : Told) (clauses : List (List Elem)) (waiting : List ℕ) : Type 0 where
   pub in_turn : IsInTurn n key told.backs told.deads clauses
-  pub in_range : (m : ℕ) → Member m waiting → m < length clauses
+  pub in_range : (m : ℕ) → OneOf m waiting → m < length clauses
   pub fewer : length waiting ≤ length clauses
 
 -- no fewer clauses were taken up than before
@@ -48,7 +48,7 @@ TakesUpMore clauses waiting clauses_new waiting_new = length clauses - length wa
 
 -- each live number that doesn't wait was live before, and didn't wait
 abbrev pub Stays : List ℕ → List ℕ → List ℕ → List ℕ → Type 0
-Stays live waiting live_new waiting_new = (k : ℕ) → Member k live_new → (Member k waiting_new → ⊥) → Member k live × (Member k waiting → ⊥)
+Stays live waiting live_new waiting_new = (k : ℕ) → OneOf k live_new → (OneOf k waiting_new → ⊥) → OneOf k live × (OneOf k waiting → ⊥)
 
 -- the clauses are those of before, with more of them or not
 abbrev pub Follows : List (List Elem) → List (List Elem) → Type 0

@@ -4,7 +4,7 @@
 //! of the premise the axioms with that atom on the left say which atoms the others have, and for All it is the clauses with an
 //! existential, or with an atom that has an axiom. The store finds the clauses by what they have.
 ghost use Rattle.std.specs.Prelude.{◌≡◌, ◌<◌, ◌↔◌, ℕ, length, slice_index_or, true, IfOk, IfSome, OnOk, MatchOption};
-ghost use Rattle.cd_base.specs.Lists.{Member};
+ghost use Rattle.cd_base.specs.Lists.{OneOf};
 ghost use Rattle.cd_base.specs.declared.normal.Triple.{Triple};
 ghost use Rattle.cd_clause.specs.Elements.{Eligible};
 ghost use Rattle.cd_clause.specs.declared.elem.Elem.{Elem};
@@ -39,7 +39,7 @@ pub(crate) fn beside(
     premise: usize,
 ) -> Result<Vec<usize>, Memory>
     requires { premise < length store.now.0 }
-    ensures live { IfOk result (λ others. (k : ℕ) → Member k others.items → Member k store.now.1) }
+    ensures live { IfOk result (λ others. (k : ℕ) → OneOf k others.items → OneOf k store.now.1) }
     ensures enough { IfOk result (λ others. AreEnough index.now.normal store.now.0 store.now.1 (numbers waiting.now) premise others.items) }
 {
     let mut found = Vec::new(alloc);
@@ -53,7 +53,7 @@ pub(crate) fn beside(
 
 /// Puts the numbers in order, each once. `n log n`.
 fn put_in_order(numbers: &mut Vec<usize>)
-    ensures { (b : ℕ) → Member b numbers.new.items ↔ Member b numbers.old.items }
+    ensures { (b : ℕ) → OneOf b numbers.new.items ↔ OneOf b numbers.old.items }
 {
     numbers.sort_unstable();
     numbers.dedup();
@@ -67,8 +67,8 @@ fn taken_up(
     waiting: &Waiting,
     premise: usize,
 ) -> Result<Vec<usize>, Memory>
-    ensures live { IfOk result (λ others. (k : ℕ) → Member k others.items → Member k store.now.1) }
-    ensures every { IfOk result (λ others. (k : ℕ) → Member k candidates.now → Member k store.now.1 → (Member k (numbers waiting.now) → ⊥) → (k ≡ premise → ⊥) → Member k others.items) }
+    ensures live { IfOk result (λ others. (k : ℕ) → OneOf k others.items → OneOf k store.now.1) }
+    ensures every { IfOk result (λ others. (k : ℕ) → OneOf k candidates.now → OneOf k store.now.1 → (OneOf k (numbers waiting.now) → ⊥) → (k ≡ premise → ⊥) → OneOf k others.items) }
 {
     let mut others = Vec::new(alloc);
     'candidates: for i in 0..candidates.len() {
@@ -83,8 +83,8 @@ fn taken_up(
 /// Whether the clause of this number was taken up before the premise: it is live, another one, and doesn't wait. Logarithmic in the live
 /// clauses.
 fn is_taken_up(store: &Store, waiting: &Waiting, premise: usize, number: usize) -> bool
-    ensures live { result ≡ true → Member number store.now.1 }
-    ensures every { Member number store.now.1 → (Member number (numbers waiting.now) → ⊥) → (number ≡ premise → ⊥) → result ≡ true }
+    ensures live { result ≡ true → OneOf number store.now.1 }
+    ensures every { OneOf number store.now.1 → (OneOf number (numbers waiting.now) → ⊥) → (number ≡ premise → ⊥) → result ≡ true }
 {
     if number == premise {
         return false;
@@ -103,7 +103,7 @@ fn push_beside(
     clause: &Clause,
     found: &mut Vec<usize>,
 ) -> Result<(), Memory>
-    requires { (e : Elem) → Member e clause.now → IsHad store.now.0 e }
+    requires { (e : Elem) → OneOf e clause.now → IsHad store.now.0 e }
     ensures { OnOk result (Gains (λ m. (e : Elem) × Eligible index.now.normal e clause.now × IsBeside index.now.normal store.now.0 e m) found.old.items found.new.items) }
 {
     let count = clause.elems().len();
@@ -124,7 +124,7 @@ fn push_beside_at(
     found: &mut Vec<usize>,
 ) -> Result<(), Memory>
     requires place { i < length clause.now }
-    requires had { (e : Elem) → Member e clause.now → IsHad store.now.0 e }
+    requires had { (e : Elem) → OneOf e clause.now → IsHad store.now.0 e }
     ensures { OnOk result (Gains (IsBesideAt index.now.normal store.now.0 clause.now i) found.old.items found.new.items) }
 {
     if eligible(clause, i, index.normal()) {
@@ -266,7 +266,7 @@ fn push_if_universal(
 
 /// Whether a universal has the atom. Constant time.
 fn has_universal(index: &Index, atom: Atom) -> bool
-    ensures { (result ≡ true) ↔ ((t : Triple) × Member t index.now.normal.n4 × (t.atom ≡ atom)) }
+    ensures { (result ≡ true) ↔ ((t : Triple) × OneOf t index.now.normal.n4 × (t.atom ≡ atom)) }
 {
     !alls(index, atom).is_empty()
 }
@@ -422,7 +422,7 @@ fn push_by_left(
 
 /// The first place of the atom. Linear in the atoms.
 fn place_of(atoms: &[Atom], atom: Atom) -> Option<usize>
-    ensures { MatchOption result (Member atom atoms.now → ⊥) (λ i. (i < length atoms.now) × (slice_index_or atoms.now i 0 ≡ atom)) }
+    ensures { MatchOption result (OneOf atom atoms.now → ⊥) (λ i. (i < length atoms.now) × (slice_index_or atoms.now i 0 ≡ atom)) }
 {
     'atoms: for i in 0..atoms.len() {
         let at = atoms[i];
@@ -435,7 +435,7 @@ fn place_of(atoms: &[Atom], atom: Atom) -> Option<usize>
 
 /// Whether each of the atoms may stand in a stored clause: true wherever each does. Two look-ups for each.
 fn may_all_stand(store: &Store, atoms: &[Atom]) -> bool
-    ensures { ((b : ℕ) → Member b atoms.now → IsHad store.now.0 (Plain b)) → result ≡ true }
+    ensures { ((b : ℕ) → OneOf b atoms.now → IsHad store.now.0 (Plain b)) → result ≡ true }
 {
     'atoms: for i in 0..atoms.len() {
         if !store.may_have(atoms[i]) {

@@ -1,6 +1,6 @@
 //! Closing a context under its rules.
 ghost use Rattle.std.specs.Prelude.{◌<◌, ℕ, [], List, length, IfOk, OnOk};
-ghost use Rattle.cd_base.specs.Lists.{Member};
+ghost use Rattle.cd_base.specs.Lists.{OneOf};
 ghost use Rattle.cd_clause.specs.declared.elem.Elem.{Elem};
 ghost use Rattle.cd_rules.specs.Facts.{ConcludesFrom};
 ghost use Rattle.cd_store.specs.Store.{IsStore};
@@ -33,12 +33,12 @@ pub(crate) fn close_with(
 ) -> Result<(), Memory>
     requires closed { ClosedUpTo index.now.normal key.now (record { backs = backs.now; deads = deads.now }) store.old.0 store.old.1 [] conclusions.items }
     requires in_turn { IsInTurn index.now.normal key.now backs.now deads.now store.old.0 }
-    requires concluded { (d : List Elem) → Member d conclusions.items → ConcludesFrom index.now.normal key.now (λ c. Member c store.old.0) backs.now deads.now d }
+    requires concluded { (d : List Elem) → OneOf d conclusions.items → ConcludesFrom index.now.normal key.now (λ c. OneOf c store.old.0) backs.now deads.now d }
     ensures closed { OnOk result (ClosedUpTo index.now.normal key.now (record { backs = backs.now; deads = deads.now }) store.new.0 store.new.1 [] []) }
     ensures in_turn { IsInTurn index.now.normal key.now backs.now deads.now store.new.0 }
     ensures store { IsStore store.new.0 store.new.1 }
     ensures follows { Follows store.old.0 store.new.0 }
-    ensures survivors { (k : ℕ) → Member k store.new.1 → k < length store.old.0 → Member k store.old.1 }
+    ensures survivors { (k : ℕ) → OneOf k store.new.1 → k < length store.old.0 → OneOf k store.old.1 }
 {
     let done = add_and_close(alloc, index, key, backs, deads, store, conclusions);
     // what every store keeps is said where its live numbers are lent
@@ -58,11 +58,11 @@ fn add_and_close(
 ) -> Result<(), Memory>
     requires closed { ClosedUpTo index.now.normal key.now (record { backs = backs.now; deads = deads.now }) store.old.0 store.old.1 [] conclusions.items }
     requires in_turn { IsInTurn index.now.normal key.now backs.now deads.now store.old.0 }
-    requires concluded { (d : List Elem) → Member d conclusions.items → ConcludesFrom index.now.normal key.now (λ c. Member c store.old.0) backs.now deads.now d }
+    requires concluded { (d : List Elem) → OneOf d conclusions.items → ConcludesFrom index.now.normal key.now (λ c. OneOf c store.old.0) backs.now deads.now d }
     ensures closed { OnOk result (ClosedUpTo index.now.normal key.now (record { backs = backs.now; deads = deads.now }) store.new.0 store.new.1 [] []) }
     ensures in_turn { IsInTurn index.now.normal key.now backs.now deads.now store.new.0 }
     ensures follows { Follows store.old.0 store.new.0 }
-    ensures survivors { (k : ℕ) → Member k store.new.1 → k < length store.old.0 → Member k store.old.1 }
+    ensures survivors { (k : ℕ) → OneOf k store.new.1 → k < length store.old.0 → OneOf k store.old.1 }
 {
     // what every store keeps is said where its live numbers are lent
     let _live = store.live();
@@ -93,12 +93,12 @@ fn add_all(
 ) -> Result<(), Memory>
     requires closed { ClosedUpTo index.now.normal key.now (record { backs = backs.now; deads = deads.now }) store.old.0 store.old.1 (numbers waiting.old) conclusions.items }
     requires working { IsWorking index.now.normal key.now (record { backs = backs.now; deads = deads.now }) store.old.0 (numbers waiting.old) }
-    requires concluded { (d : List Elem) → Member d conclusions.items → ConcludesFrom index.now.normal key.now (λ c. Member c store.old.0) backs.now deads.now d }
+    requires concluded { (d : List Elem) → OneOf d conclusions.items → ConcludesFrom index.now.normal key.now (λ c. OneOf c store.old.0) backs.now deads.now d }
     ensures closed { OnOk result (ClosedUpTo index.now.normal key.now (record { backs = backs.now; deads = deads.now }) store.new.0 store.new.1 (numbers waiting.new) []) }
     ensures working { OnOk result (IsWorking index.now.normal key.now (record { backs = backs.now; deads = deads.now }) store.new.0 (numbers waiting.new)) }
     ensures in_turn { IsInTurn index.now.normal key.now backs.now deads.now store.new.0 }
     ensures follows { Follows store.old.0 store.new.0 }
-    ensures survivors { (k : ℕ) → Member k store.new.1 → k < length store.old.0 → Member k store.old.1 }
+    ensures survivors { (k : ℕ) → OneOf k store.new.1 → k < length store.old.0 → OneOf k store.old.1 }
     ensures stays { OnOk result (Stays store.old.1 (numbers waiting.old) store.new.1 (numbers waiting.new)) }
     ensures takes_up { OnOk result (TakesUpMore store.old.0 (numbers waiting.old) store.new.0 (numbers waiting.new)) }
 {
@@ -130,7 +130,7 @@ fn close(
     ensures closed { OnOk result (ClosedUpTo index.now.normal key.now (record { backs = backs.now; deads = deads.now }) store.new.0 store.new.1 [] []) }
     ensures in_turn { IsInTurn index.now.normal key.now backs.now deads.now store.new.0 }
     ensures follows { Follows store.old.0 store.new.0 }
-    ensures survivors { (k : ℕ) → Member k store.new.1 → k < length store.old.0 → Member k store.old.1 }
+    ensures survivors { (k : ℕ) → OneOf k store.new.1 → k < length store.old.0 → OneOf k store.old.1 }
 {
     'turns: while let Some(number) = waiting.take() {
         // the number of clauses fits, and so bounds the turns: each has one more taken up
@@ -157,8 +157,8 @@ fn conclude(
     waiting: &Waiting,
     number: usize,
 ) -> Result<Vec<Clause>, Memory>
-    requires { Member number store.now.1 }
-    ensures only { IfOk result (λ conclusions. (d : List Elem) → Member d conclusions.items → ConcludesFrom index.now.normal key.now (λ c. Member c store.now.0) backs.now deads.now d) }
+    requires { OneOf number store.now.1 }
+    ensures only { IfOk result (λ conclusions. (d : List Elem) → OneOf d conclusions.items → ConcludesFrom index.now.normal key.now (λ c. OneOf c store.now.0) backs.now deads.now d) }
     ensures every { IfOk result (λ conclusions. HasConcluded index.now.normal key.now (record { backs = backs.now; deads = deads.now }) store.now.0 store.now.1 (numbers waiting.now) number conclusions.items) }
 {
     // what every store keeps is said where its live numbers are lent

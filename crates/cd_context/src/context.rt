@@ -1,7 +1,7 @@
 //! A context.
 ghost use Rattle.std.specs.Prelude.{◌≡◌, ◌↔◌, ◌<◌, ◌⊎◌, ℕ, [], true, false, IsOk, IfOk, OnOk, OnErr};
 ghost use Rattle.std.specs.List.Sorted.{IsStrictlyIncreasing};
-ghost use Rattle.cd_base.specs.Lists.{Member};
+ghost use Rattle.cd_base.specs.Lists.{OneOf};
 ghost use Rattle.cd_clause.specs.Derivations.{Reachable, IsSingle};
 ghost use Rattle.cd_context.specs.Absorbing.{Keeps, Absorbs};
 ghost use Rattle.cd_context.specs.Calls.{Grows, GainsOnly, Sends, ListsOwed};
@@ -273,7 +273,7 @@ impl Context {
 
     /// Whether the empty clause is live. Constant time: where it is, it is the last one that was stored.
     pub fn has_empty(&self) -> bool
-        ensures { (result ≡ true) ↔ Member [] (live_of self.now) }
+        ensures { (result ≡ true) ↔ OneOf [] (live_of self.now) }
     {
         has_empty(self.store.clauses(), self.store.live())
     }
@@ -287,7 +287,7 @@ impl Context {
 
     /// The atoms whose one-element clause is live, ascending, each once. Linear in the live clauses, and `n log n` in the atoms.
     pub fn singles(&self, alloc: Global) -> Result<Vec<Atom>, Memory>
-        ensures exact { IfOk result (λ atoms. (b : ℕ) → Member b atoms.items ↔ IsSingle (live_of self.now) b) }
+        ensures exact { IfOk result (λ atoms. (b : ℕ) → OneOf b atoms.items ↔ IsSingle (live_of self.now) b) }
         ensures ascends { IfOk result (λ atoms. IsStrictlyIncreasing atoms.items) }
     {
         let clauses = self.store.clauses();

@@ -4,7 +4,7 @@ ghost use Rattle.std.specs.Cmp.Rules.{hashing};
 ghost use Rattle.std.specs.Hash as fed;
 ghost use Rattle.std.proofs.Common.{rules};
 ghost use Rattle.cd_base.specs.Appends.{AppendsOnce};
-ghost use Rattle.cd_base.specs.Lists.{Member};
+ghost use Rattle.cd_base.specs.Lists.{OneOf};
 ghost use Rattle.cd_context.specs.Once.{HasEachOnce};
 ghost use Rattle.cd_context.specs.FactWrites.{fact_writes};
 
@@ -31,7 +31,7 @@ pub(crate) fn append_distinct(
     notes: Vec<Note>,
     out: &mut Vec<Note>,
 ) -> Result<(), Memory>
-    ensures { AppendsOnce (λ note. Member note notes.items) (IsOk result) out.old.items out.new.items }
+    ensures { AppendsOnce (λ note. OneOf note notes.items) (IsOk result) out.old.items out.new.items }
 {
     let distinct = distinct_of(alloc, notes)?;
     'distinct: for note in distinct {

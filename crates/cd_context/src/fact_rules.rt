@@ -3,7 +3,7 @@
 //! A context may have thousands of live clauses, and as many facts. A fact is of use to those clauses alone that have its existential, which
 //! the store finds.
 ghost use Rattle.std.specs.Prelude.{◌≡◌, ◌↔◌, ℕ, List, IfOk, IsOk};
-ghost use Rattle.cd_base.specs.Lists.{Member};
+ghost use Rattle.cd_base.specs.Lists.{OneOf};
 ghost use Rattle.cd_clause.specs.declared.elem.Elem.TheVariants.{Exist};
 ghost use Rattle.cd_base.specs.Appends.{Appends};
 ghost use Rattle.cd_rules.specs.Among.{Among};
@@ -58,8 +58,8 @@ pub(crate) fn conclude_dead(
 
 /// Numbers of live clauses, among them each that has this existential.
 fn live_with(alloc: Global, store: &Store, role: Role, key: &Key) -> Result<Vec<usize>, Memory>
-    ensures live { IfOk result (λ numbers. (k : ℕ) → Member k numbers.items → Member k store.now.1) }
-    ensures every { IfOk result (λ numbers. (k : ℕ) → Member k store.now.1 → HasElem store.now.0 (Exist role key.now) k → Member k numbers.items) }
+    ensures live { IfOk result (λ numbers. (k : ℕ) → OneOf k numbers.items → OneOf k store.now.1) }
+    ensures every { IfOk result (λ numbers. (k : ℕ) → OneOf k store.now.1 → HasElem store.now.0 (Exist role key.now) k → OneOf k numbers.items) }
 {
     let mut found = Vec::new(alloc);
     store.push_with_existential(role, key, &mut found)?;
@@ -69,7 +69,7 @@ fn live_with(alloc: Global, store: &Store, role: Role, key: &Key) -> Result<Vec<
 
 /// The live ones of these numbers. Logarithmic in the live clauses for each.
 fn live_among(alloc: Global, candidates: &[usize], store: &Store) -> Result<Vec<usize>, Memory>
-    ensures { IfOk result (λ numbers. (k : ℕ) → Member k numbers.items ↔ (Member k candidates.now × Member k store.now.1)) }
+    ensures { IfOk result (λ numbers. (k : ℕ) → OneOf k numbers.items ↔ (OneOf k candidates.now × OneOf k store.now.1)) }
 {
     let mut numbers = Vec::new(alloc);
     'candidates: for i in 0..candidates.len() {

@@ -1,7 +1,7 @@
 //! What the live clauses are asked for.
 ghost use Rattle.std.specs.Prelude.{◌≡◌, ◌↔◌, ◌⊎◌, ◌∷◌, ℕ, [], true, IfOk, OnOk, MatchOption};
 ghost use Rattle.std.specs.List.Sorted.{IsStrictlyIncreasing};
-ghost use Rattle.cd_base.specs.Lists.{Member, SameSet};
+ghost use Rattle.cd_base.specs.Lists.{OneOf, SameSet};
 ghost use Rattle.cd_clause.specs.Numbers.{picked};
 ghost use Rattle.cd_clause.specs.declared.elem.Elem.TheVariants.{Plain};
 ghost use Rattle.cd_clause.specs.Derivations.{IsSingle};
@@ -15,7 +15,7 @@ use std::alloc::Global;
 /// Whether the empty clause is one of these numbers. Constant time.
 pub(crate) fn has_empty(clauses: &[Clause], live: &[usize]) -> bool
     requires { IsStore clauses.now live.now }
-    ensures { (result ≡ true) ↔ Member [] (picked clauses.now live.now) }
+    ensures { (result ≡ true) ↔ OneOf [] (picked clauses.now live.now) }
 {
     let count = live.len();
     if count == 0 {
@@ -66,7 +66,7 @@ pub(crate) fn singles(
     live: &[usize],
 ) -> Result<Vec<Atom>, Memory>
     requires { IsStore clauses.now live.now }
-    ensures exact { IfOk result (λ atoms. (b : ℕ) → Member b atoms.items ↔ IsSingle (picked clauses.now live.now) b) }
+    ensures exact { IfOk result (λ atoms. (b : ℕ) → OneOf b atoms.items ↔ IsSingle (picked clauses.now live.now) b) }
     ensures ascends { IfOk result (λ atoms. IsStrictlyIncreasing atoms.items) }
 {
     let mut atoms = Vec::new(alloc);
@@ -80,7 +80,7 @@ pub(crate) fn singles(
 
 /// Appends the atom that is alone in the clause, if one is. Constant time.
 fn push_single(clause: &Clause, atoms: &mut Vec<Atom>) -> Result<(), Memory>
-    ensures { OnOk result ((b : ℕ) → Member b atoms.new.items ↔ (Member b atoms.old.items ⊎ SameSet clause.now (Plain b ∷ []))) }
+    ensures { OnOk result ((b : ℕ) → OneOf b atoms.new.items ↔ (OneOf b atoms.old.items ⊎ SameSet clause.now (Plain b ∷ []))) }
 {
     match only_atom(clause.elems()) {
         Some(atom) => {
@@ -103,7 +103,7 @@ fn only_atom(elems: &[Elem]) -> Option<Atom>
 
 /// Puts the atoms in order, each once. `n log n`.
 fn put_in_order(atoms: &mut Vec<Atom>)
-    ensures same { (b : ℕ) → Member b atoms.new.items ↔ Member b atoms.old.items }
+    ensures same { (b : ℕ) → OneOf b atoms.new.items ↔ OneOf b atoms.old.items }
     ensures ascends { IsStrictlyIncreasing atoms.new.items }
 {
     atoms.sort_unstable();

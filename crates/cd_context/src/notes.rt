@@ -1,7 +1,7 @@
 //! The notes that one clause makes: a link for each existential that is eligible, and for each context that has an existential to this
 //! one a back for each atom that is eligible and of use there, or a dead where the clause is empty.
 ghost use Rattle.std.specs.Prelude.{◌≡◌, ◌↔◌, ◌<◌, length, true, IsOk};
-ghost use Rattle.cd_base.specs.Lists.{Member};
+ghost use Rattle.cd_base.specs.Lists.{OneOf};
 ghost use Rattle.cd_rules.specs.LookUps.{AreAtAtom};
 ghost use Rattle.cd_base.specs.Appends.{Appends};
 ghost use Rattle.cd_context.specs.Parts.{IsUnderOne, IsLinkNote, IsBackNote, IsDeadNote, IsUsefulBack, IsLinkAt, IsBackAt, IsLinkOf, IsToldBy};
@@ -20,7 +20,7 @@ pub(crate) fn note_links(
     clause: &Clause,
     out: &mut Vec<Note>,
 ) -> Result<(), Memory>
-    ensures { Appends Member (IsLinkOf index.now.normal key.now clause.now) (IsOk result) out.old.items out.new.items }
+    ensures { Appends OneOf (IsLinkOf index.now.normal key.now clause.now) (IsOk result) out.old.items out.new.items }
 {
     let count = clause.elems().len();
     'places: for i in 0..count {
@@ -38,7 +38,7 @@ fn note_link_at(
     out: &mut Vec<Note>,
 ) -> Result<(), Memory>
     requires { i < length clause.now }
-    ensures { Appends Member (IsLinkAt index.now.normal key.now clause.now i) (IsOk result) out.old.items out.new.items }
+    ensures { Appends OneOf (IsLinkAt index.now.normal key.now clause.now i) (IsOk result) out.old.items out.new.items }
 {
     match &clause.elems()[i] {
         Elem::Plain(_) => Ok(()),
@@ -54,7 +54,7 @@ fn note_link_at(
 
 /// Appends the link to the context of the key `to`. Linear in both keys.
 fn note_link(key: &Key, role: Role, to: &Key, out: &mut Vec<Note>) -> Result<(), Memory>
-    ensures { Appends Member (IsLinkNote key.now role to.now) (IsOk result) out.old.items out.new.items }
+    ensures { Appends OneOf (IsLinkNote key.now role to.now) (IsOk result) out.old.items out.new.items }
 {
     out.push(Note {
         key: to.copy()?,
@@ -72,7 +72,7 @@ pub(crate) fn tell(
     links: &[LinkFact],
     out: &mut Vec<Note>,
 ) -> Result<(), Memory>
-    ensures { Appends Member (IsToldBy index.now.normal key.now links.now clause.now) (IsOk result) out.old.items out.new.items }
+    ensures { Appends OneOf (IsToldBy index.now.normal key.now links.now clause.now) (IsOk result) out.old.items out.new.items }
 {
     let count = clause.elems().len();
     if count == 0 {
@@ -95,7 +95,7 @@ fn tell_at(
     out: &mut Vec<Note>,
 ) -> Result<(), Memory>
     requires { i < length clause.now }
-    ensures { Appends Member (IsBackAt index.now.normal key.now links.now clause.now i) (IsOk result) out.old.items out.new.items }
+    ensures { Appends OneOf (IsBackAt index.now.normal key.now links.now clause.now i) (IsOk result) out.old.items out.new.items }
 {
     match &clause.elems()[i] {
         Elem::Exist(_, _) => Ok(()),
@@ -118,7 +118,7 @@ fn tell_atom(
     links: &[LinkFact],
     out: &mut Vec<Note>,
 ) -> Result<(), Memory>
-    ensures { Appends Member (λ note. (f : LinkFact) × Member f links.now × IsUsefulBack index.now.normal key.now atom f note) (IsOk result) out.old.items out.new.items }
+    ensures { Appends OneOf (λ note. (f : LinkFact) × OneOf f links.now × IsUsefulBack index.now.normal key.now atom f note) (IsOk result) out.old.items out.new.items }
 {
     let axioms = backs(index, atom);
     if axioms.is_empty() {
@@ -142,7 +142,7 @@ fn tell_back(
     out: &mut Vec<Note>,
 ) -> Result<(), Memory>
     requires { AreAtAtom index.now.normal.n3 atom axioms.now }
-    ensures { Appends Member (IsUsefulBack index.now.normal key.now atom link.now) (IsOk result) out.old.items out.new.items }
+    ensures { Appends OneOf (IsUsefulBack index.now.normal key.now atom link.now) (IsOk result) out.old.items out.new.items }
 {
     if is_under_one(index, axioms, link.role) {
         note_back(key, atom, link, out)
@@ -165,7 +165,7 @@ fn is_under_one(index: &Index, axioms: &[Triple], role: Role) -> bool
 
 /// Appends the back of the atom for the link. Linear in both keys.
 fn note_back(key: &Key, atom: Atom, link: &LinkFact, out: &mut Vec<Note>) -> Result<(), Memory>
-    ensures { Appends Member (IsBackNote key.now atom link.now) (IsOk result) out.old.items out.new.items }
+    ensures { Appends OneOf (IsBackNote key.now atom link.now) (IsOk result) out.old.items out.new.items }
 {
     out.push(Note {
         key: link.key.copy()?,
@@ -176,7 +176,7 @@ fn note_back(key: &Key, atom: Atom, link: &LinkFact, out: &mut Vec<Note>) -> Res
 
 /// Appends a dead for each link. Linear in the links.
 fn tell_deads(key: &Key, links: &[LinkFact], out: &mut Vec<Note>) -> Result<(), Memory>
-    ensures { Appends Member (λ note. (f : LinkFact) × Member f links.now × IsDeadNote key.now f note) (IsOk result) out.old.items out.new.items }
+    ensures { Appends OneOf (λ note. (f : LinkFact) × OneOf f links.now × IsDeadNote key.now f note) (IsOk result) out.old.items out.new.items }
 {
     let mut rest = links;
     'links: while let [link, others @ ..] = rest {
@@ -188,7 +188,7 @@ fn tell_deads(key: &Key, links: &[LinkFact], out: &mut Vec<Note>) -> Result<(), 
 
 /// Appends the dead for the link. Linear in both keys.
 fn note_dead(key: &Key, link: &LinkFact, out: &mut Vec<Note>) -> Result<(), Memory>
-    ensures { Appends Member (IsDeadNote key.now link.now) (IsOk result) out.old.items out.new.items }
+    ensures { Appends OneOf (IsDeadNote key.now link.now) (IsOk result) out.old.items out.new.items }
 {
     out.push(Note {
         key: link.key.copy()?,

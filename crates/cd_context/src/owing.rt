@@ -1,6 +1,6 @@
 //! What a context owes to others.
 ghost use Rattle.std.specs.Prelude.{◌∷◌, ◌++◌, ◌<◌, ℕ, [], length, nat_lt, filter, IsOk, List, slice_index_or};
-ghost use Rattle.cd_base.specs.Lists.{Member};
+ghost use Rattle.cd_base.specs.Lists.{OneOf};
 ghost use Rattle.cd_store.specs.Store.{IsAscending};
 ghost use Rattle.cd_context.specs.Calls.{Sends};
 ghost use Rattle.cd_base.specs.Appends.{Appends};
@@ -64,8 +64,8 @@ fn owe_all(
     links: &[LinkFact],
     out: &mut Vec<Note>,
 ) -> Result<(), Memory>
-    requires { (k : ℕ) → Member k numbers.now → k < length clauses.now }
-    ensures { Appends Member (λ note. (k : ℕ) × Member k numbers.now × IsOwedBy index.now.normal key.now links.now (slice_index_or clauses.now k []) note) (IsOk result) out.old.items out.new.items }
+    requires { (k : ℕ) → OneOf k numbers.now → k < length clauses.now }
+    ensures { Appends OneOf (λ note. (k : ℕ) × OneOf k numbers.now × IsOwedBy index.now.normal key.now links.now (slice_index_or clauses.now k []) note) (IsOk result) out.old.items out.new.items }
 {
     let mut rest = numbers;
     'numbers: while let [number, others @ ..] = rest {
@@ -83,7 +83,7 @@ fn owe_one(
     links: &[LinkFact],
     out: &mut Vec<Note>,
 ) -> Result<(), Memory>
-    ensures { Appends Member (IsOwedBy index.now.normal key.now links.now clause.now) (IsOk result) out.old.items out.new.items }
+    ensures { Appends OneOf (IsOwedBy index.now.normal key.now links.now clause.now) (IsOk result) out.old.items out.new.items }
 {
     note_links(index, key, clause, out)?;
     tell(index, key, clause, links, out)
@@ -124,8 +124,8 @@ fn tell_all(
     links: &[LinkFact],
     out: &mut Vec<Note>,
 ) -> Result<(), Memory>
-    requires { (k : ℕ) → Member k numbers.now → k < length clauses.now }
-    ensures { Appends Member (λ note. (k : ℕ) × Member k numbers.now × IsToldBy index.now.normal key.now links.now (slice_index_or clauses.now k []) note) (IsOk result) out.old.items out.new.items }
+    requires { (k : ℕ) → OneOf k numbers.now → k < length clauses.now }
+    ensures { Appends OneOf (λ note. (k : ℕ) × OneOf k numbers.now × IsToldBy index.now.normal key.now links.now (slice_index_or clauses.now k []) note) (IsOk result) out.old.items out.new.items }
 {
     let mut rest = numbers;
     'numbers: while let [number, others @ ..] = rest {

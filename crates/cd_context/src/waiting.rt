@@ -1,6 +1,6 @@
 //! The stored clauses that were not taken up as premises yet.
 ghost use Rattle.std.specs.Prelude.{◌≡◌, ◌∷◌, [], true, MatchOption, OnOk, IsPermutation};
-ghost use Rattle.cd_base.specs.Lists.{Member};
+ghost use Rattle.cd_base.specs.Lists.{OneOf};
 ghost use Rattle.cd_context.specs.TakeUp.{IsPutInto};
 ghost use Rattle.cd_context.specs.Waits.{numbers, IsLeastTaken};
 
@@ -55,7 +55,7 @@ impl Waiting {
 
     /// Whether the number waits: true only where it does. One look-up.
     pub fn has(&self, number: usize) -> bool
-        ensures { result ≡ true → Member number (numbers self.now) }
+        ensures { result ≡ true → OneOf number (numbers self.now) }
     {
         self.numbers.contains(&number)
     }

@@ -1,7 +1,7 @@
 -- How a core begins.
 use Rattle.std.proofs.Common.{◌≡◌, ℕ, inl, inr, false, List, ◌++◌, length, refl, ap, sym, ◌∙◌, subst}
 use Rattle.std.proofs.lemmas.List.{append-nil, nil_from_length}
-use Rattle.cd_base.specs.Lists.{Member}
+use Rattle.cd_base.specs.Lists.{OneOf}
 use Rattle.cd_base.proofs.Members.{member_right, member_cases}
 use Rattle.cd_actor.specs.Sends.{sent}
 use Rattle.cd_actor.specs.Meaning.{Meaning}
@@ -15,8 +15,8 @@ runs_begun : {A M : Type 0} (g : Meaning A M) (cells : List A) (start more pendi
     → AreAllLawful g cells start → AreAllLawful g cells more → IsOwedCovered g cells more → pending ≡ start ++ more → Runs g cells pending
 runs_begun g cells start more pending k s l c e = record {
   cells_ok = k;
-  lawful = λ x h. elim (member_cases x start more (subst (λ q. Member x q) e h)) [ inl i ↦ s x i | inr i ↦ l x i ];
-  owed = λ i a at p m w. elim (c i a at p m w) [ inl h ↦ inl h | inr h ↦ inr (subst (λ q. Member (p, m) q) (sym e) (member_right (p, m) start more h)) ];
+  lawful = λ x h. elim (member_cases x start more (subst (λ q. OneOf x q) e h)) [ inl i ↦ s x i | inr i ↦ l x i ];
+  owed = λ i a at p m w. elim (c i a at p m w) [ inl h ↦ inl h | inr h ↦ inr (subst (λ q. OneOf (p, m) q) (sym e) (member_right (p, m) start more h)) ];
 }
 
 -- the start messages went through one by one, `slice` is the cells, and what is owed was appended

@@ -1,6 +1,6 @@
 -- Runs by any list of choices.
 use Rattle.std.proofs.Common.{ℕ, inl, inr, Bool, List, [], ◌∷◌, sym, subst}
-use Rattle.cd_base.specs.Lists.{Member}
+use Rattle.cd_base.specs.Lists.{OneOf}
 use Rattle.cd_actor.specs.Meaning.{Meaning}
 use Rattle.cd_actor.specs.Cells.{AreOf, Had, HadOrPends}
 use Rattle.cd_actor.specs.Settled.{KeepsFamily}
@@ -22,4 +22,4 @@ every_order {M = M} g cells start choices first last b r c e =
   where
     began : (x : ℕ × M) → HadOrPends g cells start x → HadOrPends g first.0 first.1 x
     began x (inl h) = inl (subst (λ cs. Had g cs x) (sym b.cells_are) h)
-    began x (inr h) = inr (subst (λ q. Member x q) (sym b.pending) (member_left x start b.more h))
+    began x (inr h) = inr (subst (λ q. OneOf x q) (sym b.pending) (member_left x start b.more h))

@@ -3,7 +3,7 @@ use Rattle.std.proofs.Common.{◌≡◌, ℕ, zero, suc, ◌^◌, ◌+◌, ◌-�
 use Rattle.std.specs.List.{sum_by}
 use Rattle.std.proofs.lemmas.Bool.{cases_Bool}
 use Rattle.std.proofs.lemmas.List.Sums.{sum_by-set, sum_by-cons}
-use Rattle.cd_base.specs.Lists.{Member}
+use Rattle.cd_base.specs.Lists.{OneOf}
 use Rattle.cd_actor.specs.Meaning.{HasRisen, Meaning, Keeps, Delivers}
 use Rattle.cd_base.specs.Counts.{last}
 use Rattle.cd_actor.specs.Cells.{At, IsLawful, Had, HadOrPends, IsOwedCovered, total}
@@ -15,7 +15,7 @@ use Rattle.cd_actor.proofs.At.{at_below, at_one, at_of_set, at_to_set, at_same, 
 
 module _ {A M : Type 0} (g : Meaning A M) (below : (a : A) (p : ℕ) (m : M) → g.lawful a p m → p < g.places a)
     (same_places : (a b : A) → g.family a ≡ g.family b → g.places a ≡ g.places b) (same_lawful : (a b : A) → g.family a ≡ g.family b → (p : ℕ) (m : M) → g.lawful a p m → g.lawful b p m) (cells : List A) (p : ℕ) (m : M) (pending out : List (ℕ × M)) (a b : A)
-    (r : Runs g cells ((p, m) ∷ pending)) (at : At cells p a) (k : Keeps g a b) (d : Delivers g a m b out) (s : (x : ℕ × M) → Member x out → g.lawful a x.0 x.1) where
+    (r : Runs g cells ((p, m) ∷ pending)) (at : At cells p a) (k : Keeps g a b) (d : Delivers g a m b out) (s : (x : ℕ × M) → OneOf x out → g.lawful a x.0 x.1) where
   -- what was had is had
   pub turn_had : KeepsHad g cells (set cells p b)
   turn_had x h =
@@ -72,7 +72,7 @@ module _ {A M : Type 0} (g : Meaning A M) (below : (a : A) (p : ℕ) (m : M) →
   lawful_at : (x : ℕ × M) → IsLawful g cells x → g.lawful a x.0 x.1
   lawful_at x l = let c = at_some cells x.0 l.0 in same_lawful c.0 a (r.cells_ok.family x.0 p c.0 a c.1 at) x.0 x.1 (l.1 c.0 c.1)
 
-  lawful_step : (x : ℕ × M) → Member x (pending ++ out) → IsLawful g (set cells p b) x
+  lawful_step : (x : ℕ × M) → OneOf x (pending ++ out) → IsLawful g (set cells p b) x
   lawful_step x h = elim (member_cases x pending out h) [
     | inl i ↦ let l = r.lawful x (inr i) in lawful_of x (lawful_at x l)
     | inr i ↦ lawful_of x (s x i)
@@ -132,7 +132,7 @@ settled {M = M} g cells pending after rest r k of e = record {
   where
     none : (x : ℕ × M) → HadOrPends g after rest x → Had g after x
     none x (inl h) = h
-    none x (inr h) = absurd (subst (λ q. Member x q) e h)
+    none x (inr h) = absurd (subst (λ q. OneOf x q) e h)
 
 -- a message that pends is taken out to be delivered
 pub runs_taken : {A M : Type 0} (g : Meaning A M) (cells : List A) (pending : List (ℕ × M)) (n : ℕ) (x : ℕ × M) (left : List (ℕ × M)) → Runs g cells pending → At pending n x → left ≡ remove pending n → Runs g cells (x ∷ left)
@@ -142,7 +142,7 @@ runs_taken {A = A} {M = M} g cells pending n x left r at e = subst (λ q. Runs g
   owed = λ i a h p m o. taken (p, m) (r.owed i a h p m o);
 }
   where
-    lawful : (y : ℕ × M) → Member y (x ∷ remove pending n) → IsLawful g cells y
+    lawful : (y : ℕ × M) → OneOf y (x ∷ remove pending n) → IsLawful g cells y
     lawful y (inl i) = subst (λ z. IsLawful g cells z) (sym i) (r.lawful x (at_member pending n x at))
     lawful y (inr i) = r.lawful y (remove_from pending n y i)
 
@@ -153,7 +153,7 @@ runs_taken {A = A} {M = M} g cells pending n x left r at e = subst (λ q. Runs g
 -- what was had or pended is had, is taken out, or pends
 pub keeps_taken : {A M : Type 0} (g : Meaning A M) (cells : List A) (pending : List (ℕ × M)) (n : ℕ) (x : ℕ × M) (left : List (ℕ × M)) → At pending n x → left ≡ remove pending n → KeepsAll g cells pending cells (x ∷ left)
 keeps_taken g cells pending n x left at e y (inl h) = inl h
-keeps_taken g cells pending n x left at e y (inr h) = inr (subst (λ q. (y ≡ x) ⊎ Member y q) (sym e) (remove_to pending n x y at h))
+keeps_taken g cells pending n x left at e y (inr h) = inr (subst (λ q. (y ≡ x) ⊎ OneOf y q) (sym e) (remove_to pending n x y at h))
 
 -- cells that the run came to later are cells of the run, and sums below some numbers are below higher ones
 pub past_more : {A M : Type 0} (g : Meaning A M) (cells later : List A) (contexts facts more_contexts more_facts : ℕ) (after : List A) → KeepsHad g cells later → contexts ≤ more_contexts → facts ≤ more_facts

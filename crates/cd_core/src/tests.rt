@@ -3,7 +3,7 @@
 ghost use Rattle.std.specs.Prelude.{◌≡◌, ℕ, ◌<◌, ◌+◌, ◌-◌, ◌%◌, ◌==◌, ◌++◌, [], ◌∷◌, length, OnOk, OnErr, if◌then◌else◌};
 ghost use Rattle.std.specs.List.{list_any};
 ghost use Rattle.std.proofs.Common.{arith};
-ghost use Rattle.cd_base.specs.Lists.{Member};
+ghost use Rattle.cd_base.specs.Lists.{OneOf};
 
 use crate::{Core, Step, Stop};
 use cd_actor::{Actor, Outbox};
@@ -21,13 +21,13 @@ struct Numbers {
 
 impl Model for Numbers {
     ghost use Rattle.std.specs.Prelude.{ℕ, List, ◌<◌};
-    ghost use Rattle.cd_base.specs.Lists.{IsApart};
+    ghost use Rattle.cd_base.specs.Lists.{HasNoRepeats};
 
     ghost Value = { ℕ × ℕ × List ℕ };
 
     ghost view = { λ c. (c.place, c.places, c.numbers.items) };
 
-    ghost invariant = { λ c. (c.place < c.places) × IsApart c.numbers.items };
+    ghost invariant = { λ c. (c.place < c.places) × HasNoRepeats c.numbers.items };
 }
 
 impl Actor for Numbers {
@@ -40,7 +40,7 @@ impl Actor for Numbers {
       places = λ c. c.1;
       lawful = λ c p m. p < c.1;
       has = λ c m. list_any (λ n. n == m) c.2;
-      owes = λ c p m. Member (m + 1) c.2 × (p ≡ m % c.1);
+      owes = λ c p m. OneOf (m + 1) c.2 × (p ≡ m % c.1);
       whole = λ c. c.0 < c.1;
       contexts = λ c. 0;
       facts = λ c. length c.2;

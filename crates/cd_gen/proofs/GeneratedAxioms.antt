@@ -10,7 +10,7 @@ use Rattle.cd_meaning.specs.declared.expression.Axiom.TheVariants.{SubClass, Dis
 use Rattle.cd_meaning.specs.declared.expression.Expr.TheVariants.{Name, Join, SomeOf}
 use Rattle.cd_meaning.specs.Nodes.{nodes, nodes_in}
 use Rattle.cd_meaning.specs.NodesTable.{nodes-Name, nodes-Join, nodes-SomeOf, below-Name, below-Join, below-SomeOf}
-use Rattle.cd_meaning.specs.Numbered.{is_below, has_numbers_below}
+use Rattle.cd_meaning.specs.Numbered.{is_in_range, has_numbers_below}
 use Rattle.cd_gen.specs.Generated.{class_a, class_b, class_c, class_u, class_d, class_e, role_r, role_s, class_axioms, edge_axioms, level_axioms, generated_axioms}
 use Rattle.cd_gen.proofs.Levels.{levels_more}
 
@@ -76,16 +76,16 @@ all_five p q r s t hp hq hr hs ht =
     (and_from s (t && true) hs (and_from t true ht refl))))
 
 module _ (classes : ℕ) where
-  named : (c : ℕ) → c < classes → is_below classes 2 (Name c) ≡ true
+  named : (c : ℕ) → c < classes → is_in_range classes 2 (Name c) ≡ true
   named c h = below-Name classes 2 c ∙ lt-ltb c classes h
 
-  both_named : (c d : ℕ) → c < classes → d < classes → list_all (is_below classes 2) (Name c ∷ Name d ∷ []) ≡ true
-  both_named c d hc hd = and_from (is_below classes 2 (Name c)) (is_below classes 2 (Name d) && true) (named c hc) (and_from (is_below classes 2 (Name d)) true (named d hd) refl)
+  both_named : (c d : ℕ) → c < classes → d < classes → list_all (is_in_range classes 2) (Name c ∷ Name d ∷ []) ≡ true
+  both_named c d hc hd = and_from (is_in_range classes 2 (Name c)) (is_in_range classes 2 (Name d) && true) (named c hc) (and_from (is_in_range classes 2 (Name d)) true (named d hd) refl)
 
   below_named : (c d : ℕ) → c < classes → d < classes → has_numbers_below classes 2 (SubClass (Name c) (Name d)) ≡ true
-  below_named c d hc hd = and_from (is_below classes 2 (Name c)) (is_below classes 2 (Name d)) (named c hc) (named d hd)
+  below_named c d hc hd = and_from (is_in_range classes 2 (Name c)) (is_in_range classes 2 (Name d)) (named c hc) (named d hd)
 
-  edge_named : (r c : ℕ) → r < 2 → c < classes → is_below classes 2 (SomeOf r (Name c)) ≡ true
+  edge_named : (r c : ℕ) → r < 2 → c < classes → is_in_range classes 2 (SomeOf r (Name c)) ≡ true
   edge_named r c hr hc = below-SomeOf classes 2 r (Name c) ∙ and_from _ _ (lt-ltb r 2 hr) (named c hc)
 
   abbrev passes : Axiom → Bool
@@ -97,11 +97,11 @@ module _ (classes : ℕ) where
       let b = class_b level in
       let c = class_c level in
       let u = class_u level in
-      let union : is_below classes 2 (Join (Name b ∷ Name c ∷ [])) ≡ true
+      let union : is_in_range classes 2 (Join (Name b ∷ Name c ∷ [])) ≡ true
       = below-Join classes 2 (Name b ∷ Name c ∷ []) ∙ both_named b c (omega arith) (omega arith) in
       all_five (passes (SubClass (Name a) (Join (Name b ∷ Name c ∷ [])))) (passes (SubClass (Name b) (Name class_d))) (passes (SubClass (Name c) (Name class_d)))
       (passes (SubClass (Name u) (Name a))) (passes (Disjoint (Name u ∷ Name class_d ∷ [])))
-      (and_from (is_below classes 2 (Name a)) (is_below classes 2 (Join (Name b ∷ Name c ∷ []))) (named a (omega arith)) union)
+      (and_from (is_in_range classes 2 (Name a)) (is_in_range classes 2 (Join (Name b ∷ Name c ∷ []))) (named a (omega arith)) union)
       (below_named b class_d (omega arith) (omega arith)) (below_named c class_d (omega arith) (omega arith))
       (below_named u a (omega arith) (omega arith)) (both_named u class_d (omega arith) (omega arith))
 
@@ -110,7 +110,7 @@ module _ (classes : ℕ) where
   edge_numbered (suc level) h =
       ap (list_all passes) (edge_is level)
       ∙ and_from (passes (edge_axiom level)) true
-      (and_from (is_below classes 2 (Name (class_a (suc level)))) (is_below classes 2 (SomeOf role_r (Name (class_a level))))
+      (and_from (is_in_range classes 2 (Name (class_a (suc level)))) (is_in_range classes 2 (SomeOf role_r (Name (class_a level))))
       (named (class_a (suc level)) (omega arith)) (edge_named role_r (class_a level) (omega arith) (omega arith))) refl
 
   levels_numbered : (n : ℕ) → 4 * n + 4 ≤ classes → list_all passes (levels n) ≡ true
@@ -125,6 +125,6 @@ module _ (classes : ℕ) where
   axioms_numbered n h =
       let edge = SubClass (SomeOf role_s (Name class_d)) (Name class_e) in
       and_from (passes edge) (list_all passes (levels n))
-      (and_from (is_below classes 2 (SomeOf role_s (Name class_d))) (is_below classes 2 (Name class_e))
+      (and_from (is_in_range classes 2 (SomeOf role_s (Name class_d))) (is_in_range classes 2 (Name class_e))
       (edge_named role_s class_d (omega arith) (omega arith)) (named class_e (omega arith)))
       (levels_numbered n h)

@@ -14,7 +14,7 @@ use Rattle.cd_grammar.specs.declared.symbol.Symbol.TheVariants.{Inside}
 use Rattle.cd_syntax.specs.declared.words.AxiomForm.{AxiomForm}
 use Rattle.cd_syntax.specs.declared.words.Form.{Form}
 use Rattle.cd_grammar.specs.Causes.{wants_role_next, wants_role, is_prefix_iri}
-use Rattle.cd_syntax.proofs.ItemGrammar.{Wanted, PrefixIri, RoleOf, ClosingOf, AxiomIn, ExprOf, Line, Leads, IsNoted, IsBuilt, head_of, operands}
+use Rattle.cd_syntax.proofs.ItemGrammar.{Wanted, PrefixIri, RoleOf, ClosingOf, AxiomIn, ExprOf, Line, Leads, IsAnnotated, IsBuilt, head_of, operands}
 use Rattle.cd_syntax.specs.Operands.{heads_of, has_more_heads, wants_head, has_class_head, axiom_of, made_of}
 use Rattle.cd_grammar.specs.Machine.{bare}
 use Rattle.cd_syntax.proofs.Counts.{IsCount, counts}
@@ -37,7 +37,7 @@ abbrev pub Begins : List Wanted → List Wanted → Type 0
 Begins wanted wanted' = (begins_with_role wanted' ≡ true → begins_with_role wanted ≡ true) × (begins_with_prefix wanted' ≡ true → begins_with_prefix wanted ≡ true)
 
 -- an annotation
-noted_begins : (n : ℕ) (w : Wanted) (parts rest : List Wanted) → IsNoted n w parts → Begins (w ∷ rest) (parts ++ rest)
+noted_begins : (n : ℕ) (w : Wanted) (parts rest : List Wanted) → IsAnnotated n w parts → Begins (w ∷ rest) (parts ++ rest)
 noted_begins zero w parts rest l = absurd l
 noted_begins (suc n) w parts rest l = grind arith
 

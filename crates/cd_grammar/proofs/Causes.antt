@@ -9,7 +9,7 @@ use Rattle.cd_syntax.specs.declared.item.Item.TheVariants.{Word, Short, FullIri}
 use Rattle.cd_syntax.specs.declared.known.Known.{Known}
 use Rattle.cd_grammar.specs.declared.symbol.Symbol.{Symbol}
 use Rattle.cd_grammar.specs.declared.symbol.Symbol.TheVariants.{PrefixIri}
-use Rattle.cd_syntax.specs.declared.words.Key.{Key}
+use Rattle.cd_syntax.specs.declared.words.Keyword.{Keyword}
 use Rattle.cd_grammar.specs.Causes.{number_of, refused_role, refused, is_unknown, first_of_causes, cause_of}
 use Rattle.cd_syntax.proofs.ItemFault.{IsBehind, IsNoRole, IsRefused, IsUnknown, IsClash, IsDeep, IsCause}
 use Rattle.cd_syntax.specs.Grammar.{nesting, top_role, bottom_role, with_prefix}
@@ -63,8 +63,8 @@ two_refused known item number (inr (m, n)) = ap refused_role (iri_of-means known
 
 -- a word stands for no role
 two_wanted : (known : Known) (item : Item) (number : ℕ) → MeansTwo known item number → refused known item true ≡ Some number
-two_wanted known (Word (Key.Refused k)) number (inl (m, n)) = absurd m
-two_wanted known (Word (Key.Refused k)) number (inr (m, n)) = absurd m
+two_wanted known (Word (Keyword.Refused k)) number (inl (m, n)) = absurd m
+two_wanted known (Word (Keyword.Refused k)) number (inr (m, n)) = absurd m
 two_wanted known item number two = two_refused known item number two
 
 -- ---- prefixes
@@ -134,7 +134,7 @@ module _ (front : List Item) (known : Known) (stack : List Symbol) (run : after 
 
   -- an item that is found to be a refused construct is one
   refused_found : (item : Item) (number : ℕ) (wants : Bool) → role_at stack ≡ wants → refused known item wants ≡ Some number → IsRefused front item number
-  refused_found (Word (Key.Refused k)) number wants w h = inl (ap (λ (n : ℕ). Word (Key.Refused n)) cc)
+  refused_found (Word (Keyword.Refused k)) number wants w h = inl (ap (λ (n : ℕ). Word (Keyword.Refused n)) cc)
   refused_found item number true w h = inr (no_role item number w h)
   refused_found item number false w h = absurd cc
 

@@ -17,7 +17,7 @@ use Rattle.cd_grammar.specs.declared.symbol.Symbol.{Symbol}
 use Rattle.cd_grammar.specs.declared.symbol.Symbol.TheVariants.{Opening, Closing, Equals, End, Iri, Class, Document, Binding, VersionIri, QuotedEnd, Inside}
 use Rattle.cd_syntax.specs.declared.words.ExprForm.{ExprForm}
 use Rattle.cd_syntax.specs.declared.words.Form.{Form}
-use Rattle.cd_syntax.specs.declared.words.Key.{Key}
+use Rattle.cd_syntax.specs.declared.words.Keyword.{Keyword}
 use Rattle.cd_syntax.specs.Grammar.{with_role, with_prefix}
 use Rattle.cd_syntax.specs.Operands.{has_class_head, axiom_of, expression_of, made_of}
 use Rattle.cd_syntax.specs.Named.{iri_of, is_subject, is_role}
@@ -52,16 +52,16 @@ keeps_noted (suc n) known stack closable = (refl, (refl, closable))
 
 -- what axioms begin with
 keeps_axioms : (known : Known) (item : Item) (stack : List Symbol) → IsClosable 0 stack → Keeps (axioms_taken known item stack)
-keeps_axioms known (Word Key.Declaration) stack closable = (refl, (refl, (refl, closable)))
-keeps_axioms known (Word (Key.Axiom form)) stack closable = (refl, (refl, (refl, closable)))
-keeps_axioms known (Word Key.AnnotationAssertion) stack closable = (refl, (refl, (refl, closable)))
-keeps_axioms known (Word Key.AnnotationAxiom) stack closable = (refl, (refl, (refl, closable)))
+keeps_axioms known (Word Keyword.Declaration) stack closable = (refl, (refl, (refl, closable)))
+keeps_axioms known (Word (Keyword.Axiom form)) stack closable = (refl, (refl, (refl, closable)))
+keeps_axioms known (Word Keyword.AnnotationAssertion) stack closable = (refl, (refl, (refl, closable)))
+keeps_axioms known (Word Keyword.AnnotationAxiom) stack closable = (refl, (refl, (refl, closable)))
 keeps_axioms known Item.Closing stack closable = (refl, closable)
 keeps_axioms known item stack closable = tt
 
 -- what annotations and axioms begin with
 keeps_notes : (most : ℕ) (known : Known) (item : Item) (stack : List Symbol) → IsClosable 0 stack → Keeps (notes_taken most known item stack)
-keeps_notes most known (Word Key.Annotation) stack closable = keeps_noted most known (Symbol.Notes ∷ stack) (refl, closable)
+keeps_notes most known (Word Keyword.Annotation) stack closable = keeps_noted most known (Symbol.Annotations ∷ stack) (refl, closable)
 keeps_notes most known item stack closable = keeps_axioms known item stack closable
 
 -- an IRI of the ontology, or what follows it
@@ -144,7 +144,7 @@ keeps_operand known frame stack (Some i) closable = keeps_operand_by known frame
 -- an item behind operands
 keeps_inside : (known : Known) (frame : Frame) (item : Item) (stack : List Symbol) → IsClosable (handed_on frame.form) stack → Keeps (inside_taken known frame item stack)
 keeps_inside known frame Item.Closing stack closable = keeps_closed known frame.form frame.heads frame.parts stack closable
-keeps_inside known frame (Word (Key.Expr form)) stack closable = keeps_deeper frame.nesting known form frame stack (wants_part_next frame) refl closable
+keeps_inside known frame (Word (Keyword.Expr form)) stack closable = keeps_deeper frame.nesting known form frame stack (wants_part_next frame) refl closable
 keeps_inside known frame item stack closable = keeps_operand known frame stack (iri_of known item) closable
 
 -- ---- one item
@@ -159,28 +159,28 @@ keeps most known Iri item stack closable = keeps_if (is_some (iri_of known item)
 keeps most known Symbol.Subject item stack closable = keeps_if (is_subject known item) (known, stack) closable.1
 keeps most known Class item stack closable = keeps_class known stack (iri_of known item) closable.1
 keeps most known (Symbol.PrefixIri p) (FullIri i) stack closable = keeps_bound known p i stack (meaning known.prefixes p) closable.1
-keeps most known Document (Word Key.Prefix) stack closable = (refl, (refl, closable.1))
-keeps most known Document (Word Key.Ontology) stack closable = (refl, (refl, closable.1))
+keeps most known Document (Word Keyword.Prefix) stack closable = (refl, (refl, closable.1))
+keeps most known Document (Word Keyword.Ontology) stack closable = (refl, (refl, closable.1))
 keeps most known Binding (Short p []) stack closable = (refl, (refl, (refl, (refl, closable.1))))
 keeps most known Symbol.OntologyIri item stack closable = keeps_ontology most known item VersionIri stack closable.1 (refl, closable.1)
-keeps most known VersionIri item stack closable = keeps_ontology most known item Symbol.Notes stack closable.1 (refl, closable.1)
-keeps most known Symbol.Notes item stack closable = keeps_notes most known item stack closable.1
+keeps most known VersionIri item stack closable = keeps_ontology most known item Symbol.Annotations stack closable.1 (refl, closable.1)
+keeps most known Symbol.Annotations item stack closable = keeps_notes most known item stack closable.1
 keeps most known Symbol.Axioms item stack closable = keeps_axioms known item stack closable.1
-keeps most known Symbol.DeclarationIn (Word Key.Annotation) stack closable = keeps_noted most known (Symbol.DeclarationIn ∷ stack) (refl, closable.1)
-keeps most known Symbol.DeclarationIn (Word Key.Class) stack closable = (refl, (refl, (refl, (refl, closable.1))))
-keeps most known Symbol.DeclarationIn (Word Key.Entity) stack closable = (refl, (refl, (refl, (refl, closable.1))))
-keeps most known Symbol.AssertionIn (Word Key.Annotation) stack closable = keeps_noted most known (Symbol.AssertionIn ∷ stack) (refl, closable.1)
+keeps most known Symbol.DeclarationIn (Word Keyword.Annotation) stack closable = keeps_noted most known (Symbol.DeclarationIn ∷ stack) (refl, closable.1)
+keeps most known Symbol.DeclarationIn (Word Keyword.Class) stack closable = (refl, (refl, (refl, (refl, closable.1))))
+keeps most known Symbol.DeclarationIn (Word Keyword.Entity) stack closable = (refl, (refl, (refl, (refl, closable.1))))
+keeps most known Symbol.AssertionIn (Word Keyword.Annotation) stack closable = keeps_noted most known (Symbol.AssertionIn ∷ stack) (refl, closable.1)
 keeps most known Symbol.AssertionIn item stack closable = keeps_if (is_some (iri_of known item)) (known, Symbol.Subject ∷ Symbol.Value ∷ stack) (refl, (refl, closable.1))
-keeps most known Symbol.AnnotationAxiomIn (Word Key.Annotation) stack closable = keeps_noted most known (Symbol.AnnotationAxiomIn ∷ stack) (refl, closable.1)
+keeps most known Symbol.AnnotationAxiomIn (Word Keyword.Annotation) stack closable = keeps_noted most known (Symbol.AnnotationAxiomIn ∷ stack) (refl, closable.1)
 keeps most known Symbol.AnnotationAxiomIn item stack closable = keeps_if (is_some (iri_of known item)) (known, Iri ∷ Closing ∷ stack) (refl, (refl, closable.1))
-keeps most known (Symbol.NoteIn n) (Word Key.Annotation) stack closable = keeps_noted n known (Symbol.NoteIn n ∷ stack) (refl, closable.1)
-keeps most known (Symbol.NoteIn n) item stack closable = keeps_if (is_some (iri_of known item)) (known, Symbol.Value ∷ stack) (refl, closable.1)
+keeps most known (Symbol.AnnotationIn n) (Word Keyword.Annotation) stack closable = keeps_noted n known (Symbol.AnnotationIn n ∷ stack) (refl, closable.1)
+keeps most known (Symbol.AnnotationIn n) item stack closable = keeps_if (is_some (iri_of known item)) (known, Symbol.Value ∷ stack) (refl, closable.1)
 keeps most known Symbol.Value Item.Quoted stack closable = (refl, closable.1)
 keeps most known Symbol.Value item stack closable = keeps_if (is_subject known item) (known, Closing ∷ stack) (refl, closable.1)
 keeps most known QuotedEnd Item.Closing stack closable = closable.1
 keeps most known QuotedEnd Item.Lang stack closable = (refl, closable.1)
 keeps most known QuotedEnd Item.Carets stack closable = (refl, (refl, closable.1))
-keeps most known (Symbol.AxiomIn form) (Word Key.Annotation) stack closable = keeps_noted most known (Symbol.AxiomIn form ∷ stack) (refl, closable.1)
+keeps most known (Symbol.AxiomIn form) (Word Keyword.Annotation) stack closable = keeps_noted most known (Symbol.AxiomIn form ∷ stack) (refl, closable.1)
 keeps most known (Symbol.AxiomIn form) item stack closable = keeps_inside known (bare (Form.Axiom form) most) item stack closable.1
 keeps most known (Inside frame) item stack closable = keeps_inside known frame item stack closable.1
 keeps most known s item stack closable = tt

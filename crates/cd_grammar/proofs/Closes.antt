@@ -10,7 +10,7 @@ use Rattle.cd_syntax.specs.declared.known.Known.{Known}
 use Rattle.cd_grammar.specs.declared.symbol.Symbol.{Symbol}
 use Rattle.cd_grammar.specs.declared.symbol.Symbol.TheVariants.{Opening, Closing, Equals, End, Iri, Class, Document, Binding, VersionIri, QuotedEnd, Inside}
 use Rattle.cd_syntax.specs.declared.words.Form.{Form}
-use Rattle.cd_syntax.specs.declared.words.Key.{Key}
+use Rattle.cd_syntax.specs.declared.words.Keyword.{Keyword}
 use Rattle.cd_syntax.specs.Grammar.{with_class, with_prefix}
 use Rattle.cd_syntax.proofs.ItemGrammar.{Wanted, Exact, AnyIri, ClassOf, Text, Stands, Leads, opened}
 use Rattle.cd_grammar.specs.Machine.{bare}
@@ -30,20 +30,20 @@ axioms_met : (most : ℕ) (known : Known) → Leads most known (Wanted.Axioms �
 axioms_met most known = Leads.line (Exact Item.Closing ∷ Exact Item.End ∷ []) (inr (inr (inr (inr refl)))) (Leads.one (refl, refl) (Leads.one (refl, refl) Leads.here))
 
 -- nor an annotation
-notes_met : (most : ℕ) (known : Known) → Leads most known (Wanted.Notes ∷ []) (Item.Closing ∷ Item.End ∷ []) known []
+notes_met : (most : ℕ) (known : Known) → Leads most known (Wanted.Annotations ∷ []) (Item.Closing ∷ Item.End ∷ []) known []
 notes_met most known = Leads.line (Wanted.Axioms ∷ []) (inr refl) (axioms_met most known)
 
 -- nor an IRI
 ontology_met : (most : ℕ) (known : Known) → Leads most known (Wanted.OntologyIri ∷ []) (Item.Closing ∷ Item.End ∷ []) known []
-ontology_met most known = Leads.line (Wanted.Notes ∷ []) (inl refl) (notes_met most known)
+ontology_met most known = Leads.line (Wanted.Annotations ∷ []) (inl refl) (notes_met most known)
 
 -- an ontology without IRIs, annotations and axioms
 abbrev text_items : List Item
-text_items = Word Key.Ontology ∷ Item.Opening ∷ Item.Closing ∷ Item.End ∷ []
+text_items = Word Keyword.Ontology ∷ Item.Opening ∷ Item.Closing ∷ Item.End ∷ []
 
 -- such an ontology is a text
 text_met : (most : ℕ) (known : Known) → Leads most known (Text ∷ []) text_items known []
-text_met most known = Leads.line (opened Key.Ontology (Wanted.OntologyIri ∷ [])) (inr refl) (Leads.one (refl, refl) (Leads.one (refl, refl) (ontology_met most known)))
+text_met most known = Leads.line (opened Keyword.Ontology (Wanted.OntologyIri ∷ [])) (inr refl) (Leads.one (refl, refl) (Leads.one (refl, refl) (ontology_met most known)))
 
 -- an IRI that the prefix may have: the one that it has, or any
 prefix_met : (known : Known) (p : List ℕ) (o : Option (List ℕ)) → meaning known.prefixes p ≡ o
@@ -78,15 +78,15 @@ passes most known Binding =
       Leads.one (refl, refl) (Leads.one (refl, refl) (Leads.one stands (Leads.one (refl, refl) (text_met most after)))),
     )
 passes most known Symbol.OntologyIri = (Wanted.OntologyIri ∷ [], Item.Closing ∷ Item.End ∷ [], known, (refl, refl), ontology_met most known)
-passes most known VersionIri = (Wanted.Notes ∷ [], Item.Closing ∷ Item.End ∷ [], known, (inr refl, refl), notes_met most known)
-passes most known Symbol.Notes = (Wanted.Notes ∷ [], Item.Closing ∷ Item.End ∷ [], known, (refl, refl), notes_met most known)
+passes most known VersionIri = (Wanted.Annotations ∷ [], Item.Closing ∷ Item.End ∷ [], known, (inr refl, refl), notes_met most known)
+passes most known Symbol.Annotations = (Wanted.Annotations ∷ [], Item.Closing ∷ Item.End ∷ [], known, (refl, refl), notes_met most known)
 passes most known Symbol.Axioms = (Wanted.Axioms ∷ [], Item.Closing ∷ Item.End ∷ [], known, (refl, refl), axioms_met most known)
 passes most known Symbol.DeclarationIn = (
   Wanted.DeclarationIn ∷ [],
-  Word Key.Entity ∷ Item.Opening ∷ any_name ∷ Item.Closing ∷ Item.Closing ∷ [],
+  Word Keyword.Entity ∷ Item.Opening ∷ any_name ∷ Item.Closing ∷ Item.Closing ∷ [],
   known,
   (refl, refl),
-  Leads.line (opened Key.Entity (AnyIri ∷ Exact Item.Closing ∷ Exact Item.Closing ∷ [])) (inr (inr refl))
+  Leads.line (opened Keyword.Entity (AnyIri ∷ Exact Item.Closing ∷ Exact Item.Closing ∷ [])) (inr (inr refl))
       (Leads.one (refl, refl) (Leads.one (refl, refl) (Leads.one ((any_iri, refl), refl) (Leads.one (refl, refl) (Leads.one (refl, refl) Leads.here))))),
 )
 passes most known Symbol.AssertionIn = (
@@ -105,8 +105,8 @@ passes most known Symbol.AnnotationAxiomIn = (
   Leads.line (AnyIri ∷ AnyIri ∷ Exact Item.Closing ∷ []) (inr refl)
       (Leads.one ((any_iri, refl), refl) (Leads.one ((any_iri, refl), refl) (Leads.one (refl, refl) Leads.here))),
 )
-passes most known (Symbol.NoteIn n) = (
-  Wanted.NoteIn n ∷ [],
+passes most known (Symbol.AnnotationIn n) = (
+  Wanted.AnnotationIn n ∷ [],
   any_name ∷ any_name ∷ Item.Closing ∷ [],
   known,
   (refl, refl),

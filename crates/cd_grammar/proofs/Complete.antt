@@ -14,7 +14,7 @@ use Rattle.cd_grammar.specs.declared.symbol.Symbol.{Symbol}
 use Rattle.cd_grammar.specs.declared.symbol.Symbol.TheVariants.{Opening, Closing, Equals, End, Iri, Class, Document, Binding, VersionIri, QuotedEnd, Inside}
 use Rattle.cd_syntax.specs.declared.words.AxiomForm.{AxiomForm}
 use Rattle.cd_syntax.specs.declared.words.Form.{Form}
-use Rattle.cd_syntax.specs.declared.words.Key.{Key}
+use Rattle.cd_syntax.specs.declared.words.Keyword.{Keyword}
 use Rattle.cd_syntax.specs.Grammar.{with_prefix}
 use Rattle.cd_syntax.proofs.ItemGrammar.{Wanted, Exact, ClosingOf, Text, IsAnyIri, operands, Leads, IsMade}
 use Rattle.cd_syntax.specs.Named.{iri_of, is_subject}
@@ -57,15 +57,15 @@ module _ (most : ℕ) (items : List Item) (known' : Known) (wanted' : List Wante
 
   -- an axiom is taken where annotations may come
   notes_other : (known : Known) (item : Item) (stack : List Symbol) → Then (axioms_taken known item stack) → Then (notes_taken most known item stack)
-  notes_other known (Word Key.Annotation) stack goes = absurd goes
+  notes_other known (Word Keyword.Annotation) stack goes = absurd goes
   notes_other known item stack goes = goes
 
   -- the ontology's annotations
-  notes_complete : (known : Known) (item : Item) (stack : List Symbol) (rest : List Wanted) → Fills [] stack rest → From known (Wanted.Notes ∷ rest) item
+  notes_complete : (known : Known) (item : Item) (stack : List Symbol) (rest : List Wanted) → Fills [] stack rest → From known (Wanted.Annotations ∷ rest) item
       → Then (notes_taken most known item stack)
   notes_complete known item stack rest fills (Leads.one st r) = absurd st
   notes_complete known item stack rest fills (Leads.line parts (inl l) r) =
-      by_note (λ (t : Item). notes_taken most known t stack) most Symbol.Notes Wanted.Notes parts rest stack l r refl (refl, refl) fills
+      by_note (λ (t : Item). notes_taken most known t stack) most Symbol.Annotations Wanted.Annotations parts rest stack l r refl (refl, refl) fills
   notes_complete known item stack rest fills (Leads.line parts (inr is) r) =
       notes_other known item stack (axioms_complete known item stack rest fills (lined rest is r))
 
@@ -126,7 +126,7 @@ module _ (most : ℕ) (items : List Item) (known' : Known) (wanted' : List Wante
   -- an IRI is taken where annotations may come: in an assertion
   assertion_other : (known : Known) (item : Item) (stack : List Symbol) → Then (by_iri (iri_of known item) (known, Symbol.Subject ∷ Symbol.Value ∷ stack))
       → Then (advance most known Symbol.AssertionIn item stack)
-  assertion_other known (Word Key.Annotation) stack goes = absurd goes
+  assertion_other known (Word Keyword.Annotation) stack goes = absurd goes
   assertion_other known item stack goes = goes
 
   -- an assertion behind its parenthesis
@@ -145,7 +145,7 @@ module _ (most : ℕ) (items : List Item) (known' : Known) (wanted' : List Wante
   -- in another axiom on annotations
   annotation_axiom_other : (known : Known) (item : Item) (stack : List Symbol) → Then (by_iri (iri_of known item) (known, Iri ∷ Closing ∷ stack))
       → Then (advance most known Symbol.AnnotationAxiomIn item stack)
-  annotation_axiom_other known (Word Key.Annotation) stack goes = absurd goes
+  annotation_axiom_other known (Word Keyword.Annotation) stack goes = absurd goes
   annotation_axiom_other known item stack goes = goes
 
   -- an axiom on annotations behind its parenthesis
@@ -163,17 +163,17 @@ module _ (most : ℕ) (items : List Item) (known' : Known) (wanted' : List Wante
 
   -- in an annotation
   note_other : (known : Known) (n : ℕ) (item : Item) (stack : List Symbol) → Then (by_iri (iri_of known item) (known, Symbol.Value ∷ stack))
-      → Then (advance most known (Symbol.NoteIn n) item stack)
-  note_other known n (Word Key.Annotation) stack goes = absurd goes
+      → Then (advance most known (Symbol.AnnotationIn n) item stack)
+  note_other known n (Word Keyword.Annotation) stack goes = absurd goes
   note_other known n item stack goes = goes
 
   -- an annotation behind its parenthesis
   note_complete : (known : Known) (n : ℕ) (item : Item) (stack : List Symbol) (rest : List Wanted) → Fills [] stack rest
-      → From known (Wanted.NoteIn n ∷ rest) item
-      → Then (advance most known (Symbol.NoteIn n) item stack)
+      → From known (Wanted.AnnotationIn n ∷ rest) item
+      → Then (advance most known (Symbol.AnnotationIn n) item stack)
   note_complete known n item stack rest fills (Leads.one st r) = absurd st
   note_complete known n item stack rest fills (Leads.line parts (inl l) r) =
-      by_note (λ (t : Item). advance most known (Symbol.NoteIn n) t stack) n (Symbol.NoteIn n) (Wanted.NoteIn n) parts rest stack l r refl (refl, refl) fills
+      by_note (λ (t : Item). advance most known (Symbol.AnnotationIn n) t stack) n (Symbol.AnnotationIn n) (Wanted.AnnotationIn n) parts rest stack l r refl (refl, refl) fills
   note_complete known n item stack rest fills (Leads.line parts (inr is) r) =
       let first = iri_first (lined rest is r) in
       note_other known n item stack (goes_on (by_iri-means known item _ first.0) (_, _, _, (refl, refl), refl, fills) first.1)
@@ -208,7 +208,7 @@ module _ (most : ℕ) (items : List Item) (known' : Known) (wanted' : List Wante
   -- an operand is taken where annotations may come
   axiom_other : (known : Known) (form : AxiomForm) (item : Item) (stack : List Symbol) → Then (inside_taken known (bare (Form.Axiom form) most) item stack)
       → Then (advance most known (Symbol.AxiomIn form) item stack)
-  axiom_other known form (Word Key.Annotation) stack goes = absurd goes
+  axiom_other known form (Word Keyword.Annotation) stack goes = absurd goes
   axiom_other known form item stack goes = goes
 
   -- an axiom behind its parenthesis
@@ -289,10 +289,10 @@ module _ (most : ℕ) (items : List Item) (known' : Known) (wanted' : List Wante
       ontology_iri_complete known item stack rest (none_handed handed stack rest none fills) (lined rest is r)
   symbol_complete known VersionIri item stack first handed rest (inl is, none) fills r =
       let first = iri_first (lined rest is r) in
-      goes_on (ontology_iri-means known item Symbol.Notes stack first.0) (_, _, _, (refl, refl), refl, none_handed handed stack rest none fills) first.1
+      goes_on (ontology_iri-means known item Symbol.Annotations stack first.0) (_, _, _, (refl, refl), refl, none_handed handed stack rest none fills) first.1
   symbol_complete known VersionIri item stack first handed rest (inr is, none) fills r =
-      ontology_iri_other known item Symbol.Notes stack (notes_complete known item stack rest (none_handed handed stack rest none fills) (lined rest is r))
-  symbol_complete known Symbol.Notes item stack first handed rest (is, none) fills r =
+      ontology_iri_other known item Symbol.Annotations stack (notes_complete known item stack rest (none_handed handed stack rest none fills) (lined rest is r))
+  symbol_complete known Symbol.Annotations item stack first handed rest (is, none) fills r =
       notes_complete known item stack rest (none_handed handed stack rest none fills) (lined rest is r)
   symbol_complete known Symbol.Axioms item stack first handed rest (is, none) fills r =
       axioms_complete known item stack rest (none_handed handed stack rest none fills) (lined rest is r)
@@ -302,7 +302,7 @@ module _ (most : ℕ) (items : List Item) (known' : Known) (wanted' : List Wante
       assertion_complete known item stack rest (none_handed handed stack rest none fills) (lined rest is r)
   symbol_complete known Symbol.AnnotationAxiomIn item stack first handed rest (is, none) fills r =
       annotation_axiom_complete known item stack rest (none_handed handed stack rest none fills) (lined rest is r)
-  symbol_complete known (Symbol.NoteIn n) item stack first handed rest (is, none) fills r =
+  symbol_complete known (Symbol.AnnotationIn n) item stack first handed rest (is, none) fills r =
       note_complete known n item stack rest (none_handed handed stack rest none fills) (lined rest is r)
   symbol_complete known Symbol.Value item stack first handed rest (is, none) fills r =
       value_complete known item stack rest (none_handed handed stack rest none fills) (lined rest is r)

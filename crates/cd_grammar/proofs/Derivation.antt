@@ -6,8 +6,8 @@ use Rattle.cd_syntax.specs.declared.item.Item.TheVariants.{Word}
 use Rattle.cd_syntax.specs.declared.known.Known.{Known}
 use Rattle.cd_grammar.specs.declared.symbol.Symbol.{Symbol}
 use Rattle.cd_grammar.specs.declared.symbol.Symbol.TheVariants.{Opening}
-use Rattle.cd_syntax.specs.declared.words.Key.{Key}
-use Rattle.cd_syntax.proofs.ItemGrammar.{Wanted, Exact, IsAnyIri, Leads, opened, IsNoted}
+use Rattle.cd_syntax.specs.declared.words.Keyword.{Keyword}
+use Rattle.cd_syntax.proofs.ItemGrammar.{Wanted, Exact, IsAnyIri, Leads, opened, IsAnnotated}
 use Rattle.cd_syntax.specs.Named.{iri_of}
 use Rattle.cd_syntax.proofs.Items.{iri_of-means}
 use Rattle.cd_syntax.proofs.Derivation.{exact_first, lined}
@@ -39,7 +39,7 @@ pub by_exact : {most : ℕ} {items : List Item} {known known' : Known} {wanted w
 by_exact F stack r e fills = let first = exact_first r in goes_on (ap F first.0 ∙ e) fills first.1
 
 -- a line that begins with a word and a parenthesis
-pub by_word : {most : ℕ} {items : List Item} {known known' : Known} {parts inner wanted' : List Wanted} {key : Key} {item : Item} (F : Item → Option State)
+pub by_word : {most : ℕ} {items : List Item} {known known' : Known} {parts inner wanted' : List Wanted} {key : Keyword} {item : Item} (F : Item → Option State)
     (wanted : List Wanted) (stack : List Symbol)
     → parts ≡ opened key inner → Leads most known (parts ++ wanted) (item ∷ items) known' wanted' → F (Word key) ≡ Some (known, Opening ∷ stack)
     → Fills [] stack (inner ++ wanted)
@@ -49,9 +49,9 @@ by_word F wanted stack is r e fills = by_exact F (Opening ∷ stack) (lined want
 -- a line that begins with an annotation
 pub by_note : {most : ℕ} {items : List Item} {known known' : Known} {wanted' : List Wanted} {item : Item} (F : Item → Option State) (n : ℕ) (symbol : Symbol)
     (w : Wanted) (parts wanted : List Wanted) (stack : List Symbol)
-    → IsNoted n w parts → Leads most known (parts ++ wanted) (item ∷ items) known' wanted' → F (Word Key.Annotation) ≡ noted n known (symbol ∷ stack)
+    → IsAnnotated n w parts → Leads most known (parts ++ wanted) (item ∷ items) known' wanted' → F (Word Keyword.Annotation) ≡ noted n known (symbol ∷ stack)
     → Wants symbol [] (w ∷ []) [] → Fills [] stack wanted → Goes most items known' wanted' (F item)
 by_note F zero symbol w parts wanted stack l r e wants fills = absurd l
 by_note F (suc n) symbol w parts wanted stack l r e wants fills =
-    by_word F wanted (Symbol.NoteIn n ∷ symbol ∷ stack) l r e
+    by_word F wanted (Symbol.AnnotationIn n ∷ symbol ∷ stack) l r e
     (_, _, _, (refl, refl), refl, (w ∷ [], [], _, wants, refl, fills))

@@ -16,11 +16,11 @@ use Rattle.cd_syntax.specs.declared.known.Known.{Known}
 use Rattle.cd_syntax.specs.declared.operands.Made.{Made}
 use Rattle.cd_grammar.specs.declared.symbol.Frame.{Frame}
 use Rattle.cd_grammar.specs.declared.symbol.Symbol.{Symbol}
-use Rattle.cd_grammar.specs.declared.symbol.Symbol.TheVariants.{Opening, Closing, Equals, End, Iri, Subject, Class, PrefixIri, Document, Binding, OntologyIri, VersionIri, Notes, Axioms, DeclarationIn, AssertionIn, AnnotationAxiomIn, NoteIn, Value, QuotedEnd, AxiomIn, Inside}
+use Rattle.cd_grammar.specs.declared.symbol.Symbol.TheVariants.{Opening, Closing, Equals, End, Iri, Subject, Class, PrefixIri, Document, Binding, OntologyIri, VersionIri, Annotations, Axioms, DeclarationIn, AssertionIn, AnnotationAxiomIn, AnnotationIn, Value, QuotedEnd, AxiomIn, Inside}
 use Rattle.cd_syntax.specs.declared.words.AxiomForm.{AxiomForm}
 use Rattle.cd_syntax.specs.declared.words.ExprForm.{ExprForm}
 use Rattle.cd_syntax.specs.declared.words.Form.{Form}
-use Rattle.cd_syntax.specs.declared.words.Key.{Key}
+use Rattle.cd_syntax.specs.declared.words.Keyword.{Keyword}
 use Rattle.cd_syntax.specs.Grammar.{with_prefix, with_class, with_role, with_axiom}
 use Rattle.cd_syntax.specs.Named.{iri_of, is_subject, is_role}
 use Rattle.cd_grammar.specs.Machine.{State, taken_if, by_iri, class_taken, bound, noted, bare, with_head, with_part, wants_head_next, wants_part_next, given, closed, deeper, head_taken, part_taken, operand_taken, inside_taken, axioms_taken, notes_taken, ontology_iri_taken, advance}
@@ -46,7 +46,7 @@ carries_end Document = true
 carries_end Binding = true
 carries_end OntologyIri = true
 carries_end VersionIri = true
-carries_end Notes = true
+carries_end Annotations = true
 carries_end Axioms = true
 carries_end symbol = false
 
@@ -131,10 +131,10 @@ module _ (most : ℕ) (known : Known) where
   bound_goes p i stack (Some j) = if_goes (FullIri i) (PrefixIri p ∷ stack) (with_prefix known p i, stack) (bytes_eq j i) (Moves.binds p i refl)
 
   -- an annotation in front of a symbol
-  noted_goes : (n : ℕ) (item : Item) (symbol next : Symbol) (stack : List Symbol) → ((k : ℕ) → may_replace symbol (Opening ∷ NoteIn k ∷ next ∷ []) ≡ true)
+  noted_goes : (n : ℕ) (item : Item) (symbol next : Symbol) (stack : List Symbol) → ((k : ℕ) → may_replace symbol (Opening ∷ AnnotationIn k ∷ next ∷ []) ≡ true)
       → Goes most known item (symbol ∷ stack) (noted n known (next ∷ stack))
   noted_goes zero item symbol next stack may = tt
-  noted_goes (suc n) item symbol next stack may = Moves.passes (Opening ∷ NoteIn n ∷ next ∷ []) (may n)
+  noted_goes (suc n) item symbol next stack may = Moves.passes (Opening ∷ AnnotationIn n ∷ next ∷ []) (may n)
 
   -- ---- operands
 
@@ -174,8 +174,8 @@ module _ (most : ℕ) (known : Known) where
   inside_goes : (item : Item) (symbol : Symbol) (frame : Frame) (stack : List Symbol) → IsBehind most symbol frame
       → Goes most known item (symbol ∷ stack) (inside_taken known frame item stack)
   inside_goes Item.Closing symbol frame stack behind = closed_goes Item.Closing symbol frame stack behind (made_of frame.form frame.heads frame.parts) refl
-  inside_goes (Word (Key.Expr form)) symbol frame stack behind =
-      deeper_goes (Word (Key.Expr form)) symbol frame stack behind (wants_part_next frame) frame.nesting form
+  inside_goes (Word (Keyword.Expr form)) symbol frame stack behind =
+      deeper_goes (Word (Keyword.Expr form)) symbol frame stack behind (wants_part_next frame) frame.nesting form
   inside_goes item symbol frame stack behind = operand_goes item symbol frame stack behind (iri_of known item) refl
 
   -- ---- the rest
@@ -190,16 +190,16 @@ module _ (most : ℕ) (known : Known) where
 
   axioms_goes : (item : Item) (symbol : Symbol) (stack : List Symbol) → MayAsAxioms symbol
       → Goes most known item (symbol ∷ stack) (axioms_taken known item stack)
-  axioms_goes (Word Key.Declaration) symbol stack may = passes_as (Word Key.Declaration) symbol stack (Opening ∷ DeclarationIn ∷ Axioms ∷ []) may refl
-  axioms_goes (Word (Key.Axiom form)) symbol stack may = passes_as (Word (Key.Axiom form)) symbol stack (Opening ∷ AxiomIn form ∷ Axioms ∷ []) may refl
-  axioms_goes (Word Key.AnnotationAssertion) symbol stack may = passes_as (Word Key.AnnotationAssertion) symbol stack (Opening ∷ AssertionIn ∷ Axioms ∷ []) may refl
-  axioms_goes (Word Key.AnnotationAxiom) symbol stack may = passes_as (Word Key.AnnotationAxiom) symbol stack (Opening ∷ AnnotationAxiomIn ∷ Axioms ∷ []) may refl
+  axioms_goes (Word Keyword.Declaration) symbol stack may = passes_as (Word Keyword.Declaration) symbol stack (Opening ∷ DeclarationIn ∷ Axioms ∷ []) may refl
+  axioms_goes (Word (Keyword.Axiom form)) symbol stack may = passes_as (Word (Keyword.Axiom form)) symbol stack (Opening ∷ AxiomIn form ∷ Axioms ∷ []) may refl
+  axioms_goes (Word Keyword.AnnotationAssertion) symbol stack may = passes_as (Word Keyword.AnnotationAssertion) symbol stack (Opening ∷ AssertionIn ∷ Axioms ∷ []) may refl
+  axioms_goes (Word Keyword.AnnotationAxiom) symbol stack may = passes_as (Word Keyword.AnnotationAxiom) symbol stack (Opening ∷ AnnotationAxiomIn ∷ Axioms ∷ []) may refl
   axioms_goes Item.Closing symbol stack may = passes_as Item.Closing symbol stack (End ∷ []) may refl
   axioms_goes item symbol stack may = tt
 
   notes_goes : (item : Item) (symbol : Symbol) (stack : List Symbol) → MayAsAxioms symbol
       → Goes most known item (symbol ∷ stack) (notes_taken most known item stack)
-  notes_goes (Word Key.Annotation) symbol stack may = noted_goes most (Word Key.Annotation) symbol Notes stack (λ k. may (Opening ∷ NoteIn k ∷ Notes ∷ []) refl)
+  notes_goes (Word Keyword.Annotation) symbol stack may = noted_goes most (Word Keyword.Annotation) symbol Annotations stack (λ k. may (Opening ∷ AnnotationIn k ∷ Annotations ∷ []) refl)
   notes_goes item symbol stack may = axioms_goes item symbol stack may
 
   ontology_goes : (item : Item) (symbol next : Symbol) (stack : List Symbol) → MayAsAxioms symbol
@@ -227,28 +227,28 @@ module _ (most : ℕ) (known : Known) where
   advance_goes Subject item stack = subject_goes item Subject [] stack refl
   advance_goes Class item stack = class_goes item stack (iri_of known item) refl
   advance_goes (PrefixIri p) (FullIri i) stack = bound_goes p i stack (meaning known.prefixes p)
-  advance_goes Document (Word Key.Prefix) stack = Moves.passes (Opening ∷ Binding ∷ []) refl
-  advance_goes Document (Word Key.Ontology) stack = Moves.passes (Opening ∷ OntologyIri ∷ []) refl
+  advance_goes Document (Word Keyword.Prefix) stack = Moves.passes (Opening ∷ Binding ∷ []) refl
+  advance_goes Document (Word Keyword.Ontology) stack = Moves.passes (Opening ∷ OntologyIri ∷ []) refl
   advance_goes Binding (Short p []) stack = Moves.passes (Equals ∷ PrefixIri p ∷ Closing ∷ Document ∷ []) refl
   advance_goes OntologyIri item stack = ontology_goes item OntologyIri VersionIri stack (λ parts may. may) refl
-  advance_goes VersionIri item stack = ontology_goes item VersionIri Notes stack (λ parts may. may) refl
-  advance_goes Notes item stack = notes_goes item Notes stack (λ parts may. may)
+  advance_goes VersionIri item stack = ontology_goes item VersionIri Annotations stack (λ parts may. may) refl
+  advance_goes Annotations item stack = notes_goes item Annotations stack (λ parts may. may)
   advance_goes Axioms item stack = axioms_goes item Axioms stack (λ parts may. may)
-  advance_goes DeclarationIn (Word Key.Annotation) stack = noted_goes most (Word Key.Annotation) DeclarationIn DeclarationIn stack (λ k. refl)
-  advance_goes DeclarationIn (Word Key.Class) stack = Moves.passes (Opening ∷ Class ∷ Closing ∷ Closing ∷ []) refl
-  advance_goes DeclarationIn (Word Key.Entity) stack = Moves.passes (Opening ∷ Iri ∷ Closing ∷ Closing ∷ []) refl
-  advance_goes AssertionIn (Word Key.Annotation) stack = noted_goes most (Word Key.Annotation) AssertionIn AssertionIn stack (λ k. refl)
+  advance_goes DeclarationIn (Word Keyword.Annotation) stack = noted_goes most (Word Keyword.Annotation) DeclarationIn DeclarationIn stack (λ k. refl)
+  advance_goes DeclarationIn (Word Keyword.Class) stack = Moves.passes (Opening ∷ Class ∷ Closing ∷ Closing ∷ []) refl
+  advance_goes DeclarationIn (Word Keyword.Entity) stack = Moves.passes (Opening ∷ Iri ∷ Closing ∷ Closing ∷ []) refl
+  advance_goes AssertionIn (Word Keyword.Annotation) stack = noted_goes most (Word Keyword.Annotation) AssertionIn AssertionIn stack (λ k. refl)
   advance_goes AssertionIn item stack = iri_goes item AssertionIn (Subject ∷ Value ∷ []) stack refl
-  advance_goes AnnotationAxiomIn (Word Key.Annotation) stack = noted_goes most (Word Key.Annotation) AnnotationAxiomIn AnnotationAxiomIn stack (λ k. refl)
+  advance_goes AnnotationAxiomIn (Word Keyword.Annotation) stack = noted_goes most (Word Keyword.Annotation) AnnotationAxiomIn AnnotationAxiomIn stack (λ k. refl)
   advance_goes AnnotationAxiomIn item stack = iri_goes item AnnotationAxiomIn (Iri ∷ Closing ∷ []) stack refl
-  advance_goes (NoteIn n) (Word Key.Annotation) stack = noted_goes n (Word Key.Annotation) (NoteIn n) (NoteIn n) stack (λ k. refl)
-  advance_goes (NoteIn n) item stack = iri_goes item (NoteIn n) (Value ∷ []) stack refl
+  advance_goes (AnnotationIn n) (Word Keyword.Annotation) stack = noted_goes n (Word Keyword.Annotation) (AnnotationIn n) (AnnotationIn n) stack (λ k. refl)
+  advance_goes (AnnotationIn n) item stack = iri_goes item (AnnotationIn n) (Value ∷ []) stack refl
   advance_goes Value Item.Quoted stack = Moves.passes (QuotedEnd ∷ []) refl
   advance_goes Value item stack = subject_goes item Value (Closing ∷ []) stack refl
   advance_goes QuotedEnd Item.Closing stack = Moves.passes [] refl
   advance_goes QuotedEnd Item.Lang stack = Moves.passes (Closing ∷ []) refl
   advance_goes QuotedEnd Item.Carets stack = Moves.passes (Iri ∷ Closing ∷ []) refl
-  advance_goes (AxiomIn form) (Word Key.Annotation) stack = noted_goes most (Word Key.Annotation) (AxiomIn form) (AxiomIn form) stack (λ k. refl)
+  advance_goes (AxiomIn form) (Word Keyword.Annotation) stack = noted_goes most (Word Keyword.Annotation) (AxiomIn form) (AxiomIn form) stack (λ k. refl)
   advance_goes (AxiomIn form) item stack = inside_goes item (AxiomIn form) (bare (Form.Axiom form) most) stack IsBehind.none
   advance_goes (Inside frame) item stack = inside_goes item (Inside frame) frame stack IsBehind.some
   advance_goes symbol item stack = tt

@@ -8,7 +8,7 @@ use Rattle.cd_meaning.specs.declared.expression.Axiom.{Axiom}
 use Rattle.cd_meaning.specs.declared.expression.Expr.{Expr}
 use Rattle.cd_meaning.specs.declared.expression.Expr.TheVariants.{Name}
 use Rattle.cd_meaning.specs.Iri.{thing, nothing}
-use Rattle.cd_meaning.specs.Numbered.{is_below, has_numbers_below}
+use Rattle.cd_meaning.specs.Numbered.{is_in_range, has_numbers_below}
 use Rattle.cd_names.specs.Names.{add_name, number}
 use Rattle.cd_syntax.specs.declared.item.Item.{Item}
 use Rattle.cd_syntax.specs.declared.known.Known.{Known}
@@ -71,9 +71,9 @@ head_in_range n m frame k b h kind less = (
   h.1,
 )
 
-part_in_range : (n m : ℕ) (frame : Frame) (e : Expr) → HaveNumbersBelow n m frame.form frame.heads frame.parts → is_below n m e ≡ true
+part_in_range : (n m : ℕ) (frame : Frame) (e : Expr) → HaveNumbersBelow n m frame.form frame.heads frame.parts → is_in_range n m e ≡ true
     → IsInRange n m (Inside (with_part frame e))
-part_in_range n m frame e h below = (h.0, pushed_all (is_below n m) frame.parts e h.1 below)
+part_in_range n m frame e h below = (h.0, pushed_all (is_in_range n m) frame.parts e h.1 below)
 
 -- ---- what is known
 

@@ -11,10 +11,10 @@ use Rattle.cd_syntax.specs.declared.known.Known.{Known}
 use Rattle.cd_syntax.specs.declared.operands.Made.{Made}
 use Rattle.cd_grammar.specs.declared.symbol.Frame.{Frame}
 use Rattle.cd_grammar.specs.declared.symbol.Symbol.{Symbol}
-use Rattle.cd_grammar.specs.declared.symbol.Symbol.TheVariants.{Opening, Closing, Equals, End, Iri, Subject, Class, PrefixIri, Document, Binding, OntologyIri, VersionIri, Notes, Axioms, DeclarationIn, AssertionIn, AnnotationAxiomIn, NoteIn, Value, QuotedEnd, AxiomIn, Inside}
+use Rattle.cd_grammar.specs.declared.symbol.Symbol.TheVariants.{Opening, Closing, Equals, End, Iri, Subject, Class, PrefixIri, Document, Binding, OntologyIri, VersionIri, Annotations, Axioms, DeclarationIn, AssertionIn, AnnotationAxiomIn, AnnotationIn, Value, QuotedEnd, AxiomIn, Inside}
 use Rattle.cd_syntax.specs.declared.words.ExprForm.{ExprForm}
 use Rattle.cd_syntax.specs.declared.words.Form.{Form}
-use Rattle.cd_syntax.specs.declared.words.Key.{Key}
+use Rattle.cd_syntax.specs.declared.words.Keyword.{Keyword}
 use Rattle.cd_grammar.specs.Causes.{is_zero, is_over}
 use Rattle.cd_syntax.specs.Grammar.{begun, with_prefix, with_role}
 use Rattle.cd_syntax.specs.Operands.{has_class_head, made_of}
@@ -28,7 +28,7 @@ raised_frame frame = record frame { nesting = suc frame.nesting }
 
 -- one more may stand inside each other at the symbol
 abbrev pub raise : Symbol → Symbol
-raise (NoteIn n) = NoteIn (suc n)
+raise (AnnotationIn n) = AnnotationIn (suc n)
 raise (Inside frame) = Inside (raised_frame frame)
 raise symbol = symbol
 
@@ -60,17 +60,17 @@ raises_bound known p i stack (Some j) = raises_if (bytes_eq j i) (with_prefix kn
 
 -- what axioms begin with
 raises_axioms : (known : Known) (item : Item) (stack : List Symbol) → IsRaised false (axioms_taken known item stack) (axioms_taken known item (raised stack))
-raises_axioms known (Word Key.Declaration) stack = refl
-raises_axioms known (Word (Key.Axiom form)) stack = refl
-raises_axioms known (Word Key.AnnotationAssertion) stack = refl
-raises_axioms known (Word Key.AnnotationAxiom) stack = refl
+raises_axioms known (Word Keyword.Declaration) stack = refl
+raises_axioms known (Word (Keyword.Axiom form)) stack = refl
+raises_axioms known (Word Keyword.AnnotationAssertion) stack = refl
+raises_axioms known (Word Keyword.AnnotationAxiom) stack = refl
 raises_axioms known Item.Closing stack = refl
 raises_axioms known item stack = refl
 
 -- what annotations and axioms begin with
 raises_notes : (n : ℕ) (known : Known) (item : Item) (stack : List Symbol)
     → IsRaised false (notes_taken (suc n) known item stack) (notes_taken (suc (suc n)) known item (raised stack))
-raises_notes n known (Word Key.Annotation) stack = refl
+raises_notes n known (Word Keyword.Annotation) stack = refl
 raises_notes n known item stack = raises_axioms known item stack
 
 -- an IRI of the ontology, or what follows it
@@ -136,13 +136,13 @@ raises_operand known frame stack (Some i) =
 raises_inside : (known : Known) (frame : Frame) (item : Item) (stack : List Symbol)
     → IsRaised (is_over (Inside frame) item) (inside_taken known frame item stack) (inside_taken known (raised_frame frame) item (raised stack))
 raises_inside known frame Item.Closing stack = raises_closed known (made_of frame.form frame.heads frame.parts) stack
-raises_inside known frame (Word (Key.Expr form)) stack = raises_deeper (wants_part_next frame) frame.nesting known form frame stack
+raises_inside known frame (Word (Keyword.Expr form)) stack = raises_deeper (wants_part_next frame) frame.nesting known form frame stack
 raises_inside known frame item stack = raises_operand known frame stack (iri_of known item)
 
 -- ---- one item
 
 -- an annotation of an annotation, unless the limit is in the way
-raises_note : (n : ℕ) (known : Known) (stack : List Symbol) → IsRaised (is_zero n) (noted n known (NoteIn n ∷ stack)) (noted (suc n) known (raised (NoteIn n ∷ stack)))
+raises_note : (n : ℕ) (known : Known) (stack : List Symbol) → IsRaised (is_zero n) (noted n known (AnnotationIn n ∷ stack)) (noted (suc n) known (raised (AnnotationIn n ∷ stack)))
 raises_note zero known stack = refl
 raises_note (suc n) known stack = refl
 
@@ -157,29 +157,29 @@ raises n known Iri item stack = raises_if (is_some (iri_of known item)) known st
 raises n known Subject item stack = raises_if (is_subject known item) known stack
 raises n known Class item stack = raises_class known stack (iri_of known item)
 raises n known (PrefixIri p) (FullIri i) stack = raises_bound known p i stack (meaning known.prefixes p)
-raises n known Document (Word Key.Prefix) stack = refl
-raises n known Document (Word Key.Ontology) stack = refl
+raises n known Document (Word Keyword.Prefix) stack = refl
+raises n known Document (Word Keyword.Ontology) stack = refl
 raises n known Binding (Short p []) stack = refl
 raises n known OntologyIri item stack = raises_ontology n known item VersionIri stack refl
-raises n known VersionIri item stack = raises_ontology n known item Notes stack refl
-raises n known Notes item stack = raises_notes n known item stack
+raises n known VersionIri item stack = raises_ontology n known item Annotations stack refl
+raises n known Annotations item stack = raises_notes n known item stack
 raises n known Axioms item stack = raises_axioms known item stack
-raises n known DeclarationIn (Word Key.Annotation) stack = refl
-raises n known DeclarationIn (Word Key.Class) stack = refl
-raises n known DeclarationIn (Word Key.Entity) stack = refl
-raises n known AssertionIn (Word Key.Annotation) stack = refl
+raises n known DeclarationIn (Word Keyword.Annotation) stack = refl
+raises n known DeclarationIn (Word Keyword.Class) stack = refl
+raises n known DeclarationIn (Word Keyword.Entity) stack = refl
+raises n known AssertionIn (Word Keyword.Annotation) stack = refl
 raises n known AssertionIn item stack = raises_if (is_some (iri_of known item)) known (Subject ∷ Value ∷ stack)
-raises n known AnnotationAxiomIn (Word Key.Annotation) stack = refl
+raises n known AnnotationAxiomIn (Word Keyword.Annotation) stack = refl
 raises n known AnnotationAxiomIn item stack = raises_if (is_some (iri_of known item)) known (Iri ∷ Closing ∷ stack)
-raises n known (NoteIn m) (Word Key.Annotation) stack = raises_note m known stack
-raises n known (NoteIn m) item stack = raises_if (is_some (iri_of known item)) known (Value ∷ stack)
+raises n known (AnnotationIn m) (Word Keyword.Annotation) stack = raises_note m known stack
+raises n known (AnnotationIn m) item stack = raises_if (is_some (iri_of known item)) known (Value ∷ stack)
 raises n known Value Item.Quoted stack = refl
 raises n known Value item stack = raises_if (is_subject known item) known (Closing ∷ stack)
 raises n known QuotedEnd Item.Closing stack = refl
 raises n known QuotedEnd Item.Lang stack = refl
 raises n known QuotedEnd Item.Carets stack = refl
-raises n known (AxiomIn form) (Word Key.Annotation) stack = refl
-raises n known (AxiomIn form) (Word (Key.Expr e)) stack =
+raises n known (AxiomIn form) (Word Keyword.Annotation) stack = refl
+raises n known (AxiomIn form) (Word (Keyword.Expr e)) stack =
     raises_first (wants_part_next (bare (Form.Axiom form) (suc n))) n known e (bare (Form.Axiom form) (suc n)) stack
 raises n known (AxiomIn form) item stack = raises_inside known (bare (Form.Axiom form) (suc n)) item stack
 raises n known (Inside frame) item stack = raises_inside known frame item stack

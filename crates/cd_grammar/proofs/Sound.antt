@@ -12,9 +12,9 @@ use Rattle.cd_grammar.specs.declared.symbol.Symbol.{Symbol}
 use Rattle.cd_grammar.specs.declared.symbol.Symbol.TheVariants.{Opening, Closing, Equals, End, Iri, Class, Document, Binding, VersionIri, QuotedEnd, Inside}
 use Rattle.cd_syntax.specs.declared.words.AxiomForm.{AxiomForm}
 use Rattle.cd_syntax.specs.declared.words.Form.{Form}
-use Rattle.cd_syntax.specs.declared.words.Key.{Key}
+use Rattle.cd_syntax.specs.declared.words.Keyword.{Keyword}
 use Rattle.cd_syntax.specs.Grammar.{with_class, with_prefix}
-use Rattle.cd_syntax.proofs.ItemGrammar.{Wanted, Exact, AnyIri, ClassOf, Text, IsAnyIri, IsNoted, Line, Leads, opened}
+use Rattle.cd_syntax.proofs.ItemGrammar.{Wanted, Exact, AnyIri, ClassOf, Text, IsAnyIri, IsAnnotated, Line, Leads, opened}
 use Rattle.cd_syntax.specs.Named.{iri_of, is_subject}
 use Rattle.cd_grammar.specs.Machine.{State, class_taken, bound, noted, bare, axioms_taken, notes_taken, ontology_iri_taken, inside_taken, advance}
 use Rattle.cd_grammar.proofs.Fills.{Wants, Fills}
@@ -31,38 +31,38 @@ module _ (most : ℕ) (known : Known) where
       → (first : List Wanted) × Wants s [] first [] × Leads most known (first ++ rest) items known' wanted'
 
   -- an annotation before what is wanted
-  annotated : (w : Wanted) (n m : ℕ) → n ≡ suc m → ((parts : List Wanted) → IsNoted n w parts → Line most w parts)
-      → (rest : List Wanted) (known' : Known) (wanted' : List Wanted) (items : List Item) → Leads most known (Exact Item.Opening ∷ Wanted.NoteIn m ∷ w ∷ rest) items known' wanted'
-      → Leads most known (w ∷ rest) (Word Key.Annotation ∷ items) known' wanted'
+  annotated : (w : Wanted) (n m : ℕ) → n ≡ suc m → ((parts : List Wanted) → IsAnnotated n w parts → Line most w parts)
+      → (rest : List Wanted) (known' : Known) (wanted' : List Wanted) (items : List Item) → Leads most known (Exact Item.Opening ∷ Wanted.AnnotationIn m ∷ w ∷ rest) items known' wanted'
+      → Leads most known (w ∷ rest) (Word Keyword.Annotation ∷ items) known' wanted'
   annotated w n m at line rest known' wanted' items r =
-      let parts = opened Key.Annotation (Wanted.NoteIn m ∷ w ∷ []) in
-      Leads.line parts (line parts (subst (λ (k : ℕ). IsNoted k w parts) (sym at) refl)) (Leads.one (refl, refl) r)
+      let parts = opened Keyword.Annotation (Wanted.AnnotationIn m ∷ w ∷ []) in
+      Leads.line parts (line parts (subst (λ (k : ℕ). IsAnnotated k w parts) (sym at) refl)) (Leads.one (refl, refl) r)
 
   -- the word of an annotation, before what the symbol may want next
   noted_sound : (s next : Symbol) (stack : List Symbol) (n : ℕ)
-      → ((m : ℕ) → n ≡ suc m → InTurn (Opening ∷ Symbol.NoteIn m ∷ next ∷ []) (Follows most known s (Word Key.Annotation) stack known))
-      → IsSoundStep most known s (Word Key.Annotation) stack (noted n known (next ∷ stack))
+      → ((m : ℕ) → n ≡ suc m → InTurn (Opening ∷ Symbol.AnnotationIn m ∷ next ∷ []) (Follows most known s (Word Keyword.Annotation) stack known))
+      → IsSoundStep most known s (Word Keyword.Annotation) stack (noted n known (next ∷ stack))
   noted_sound s next stack zero h = tt
-  noted_sound s next stack (suc m) h = pushed_sound most known s (Word Key.Annotation) stack known (Opening ∷ Symbol.NoteIn m ∷ next ∷ []) (h m refl)
+  noted_sound s next stack (suc m) h = pushed_sound most known s (Word Keyword.Annotation) stack known (Opening ∷ Symbol.AnnotationIn m ∷ next ∷ []) (h m refl)
 
   -- an item where axioms are wanted
   axioms_sound : (s : Symbol) (item : Item) (stack : List Symbol) → Begins s Wanted.Axioms → IsSoundStep most known s item stack (axioms_taken known item stack)
-  axioms_sound s (Word Key.Declaration) stack begins =
-      pushed_sound most known s (Word Key.Declaration) stack known (Opening ∷ Symbol.DeclarationIn ∷ Symbol.Axioms ∷ [])
-      (λ rest known' wanted' items r. begins rest known' wanted' (Word Key.Declaration ∷ items)
-      (Leads.line (opened Key.Declaration (Wanted.DeclarationIn ∷ Wanted.Axioms ∷ [])) (inl refl) (Leads.one (refl, refl) r)))
-  axioms_sound s (Word (Key.Axiom form)) stack begins =
-      pushed_sound most known s (Word (Key.Axiom form)) stack known (Opening ∷ Symbol.AxiomIn form ∷ Symbol.Axioms ∷ [])
-      (λ a made rest known' wanted' items r. begins rest known' wanted' (Word (Key.Axiom form) ∷ items)
-      (Leads.line (opened (Key.Axiom form) (Wanted.AxiomIn form a ∷ Wanted.Axioms ∷ [])) (inr (inl (form, a, made, refl))) (Leads.one (refl, refl) r)))
-  axioms_sound s (Word Key.AnnotationAssertion) stack begins =
-      pushed_sound most known s (Word Key.AnnotationAssertion) stack known (Opening ∷ Symbol.AssertionIn ∷ Symbol.Axioms ∷ [])
-      (λ rest known' wanted' items r. begins rest known' wanted' (Word Key.AnnotationAssertion ∷ items)
-      (Leads.line (opened Key.AnnotationAssertion (Wanted.AssertionIn ∷ Wanted.Axioms ∷ [])) (inr (inr (inl refl))) (Leads.one (refl, refl) r)))
-  axioms_sound s (Word Key.AnnotationAxiom) stack begins =
-      pushed_sound most known s (Word Key.AnnotationAxiom) stack known (Opening ∷ Symbol.AnnotationAxiomIn ∷ Symbol.Axioms ∷ [])
-      (λ rest known' wanted' items r. begins rest known' wanted' (Word Key.AnnotationAxiom ∷ items)
-      (Leads.line (opened Key.AnnotationAxiom (Wanted.AnnotationAxiomIn ∷ Wanted.Axioms ∷ [])) (inr (inr (inr (inl refl)))) (Leads.one (refl, refl) r)))
+  axioms_sound s (Word Keyword.Declaration) stack begins =
+      pushed_sound most known s (Word Keyword.Declaration) stack known (Opening ∷ Symbol.DeclarationIn ∷ Symbol.Axioms ∷ [])
+      (λ rest known' wanted' items r. begins rest known' wanted' (Word Keyword.Declaration ∷ items)
+      (Leads.line (opened Keyword.Declaration (Wanted.DeclarationIn ∷ Wanted.Axioms ∷ [])) (inl refl) (Leads.one (refl, refl) r)))
+  axioms_sound s (Word (Keyword.Axiom form)) stack begins =
+      pushed_sound most known s (Word (Keyword.Axiom form)) stack known (Opening ∷ Symbol.AxiomIn form ∷ Symbol.Axioms ∷ [])
+      (λ a made rest known' wanted' items r. begins rest known' wanted' (Word (Keyword.Axiom form) ∷ items)
+      (Leads.line (opened (Keyword.Axiom form) (Wanted.AxiomIn form a ∷ Wanted.Axioms ∷ [])) (inr (inl (form, a, made, refl))) (Leads.one (refl, refl) r)))
+  axioms_sound s (Word Keyword.AnnotationAssertion) stack begins =
+      pushed_sound most known s (Word Keyword.AnnotationAssertion) stack known (Opening ∷ Symbol.AssertionIn ∷ Symbol.Axioms ∷ [])
+      (λ rest known' wanted' items r. begins rest known' wanted' (Word Keyword.AnnotationAssertion ∷ items)
+      (Leads.line (opened Keyword.AnnotationAssertion (Wanted.AssertionIn ∷ Wanted.Axioms ∷ [])) (inr (inr (inl refl))) (Leads.one (refl, refl) r)))
+  axioms_sound s (Word Keyword.AnnotationAxiom) stack begins =
+      pushed_sound most known s (Word Keyword.AnnotationAxiom) stack known (Opening ∷ Symbol.AnnotationAxiomIn ∷ Symbol.Axioms ∷ [])
+      (λ rest known' wanted' items r. begins rest known' wanted' (Word Keyword.AnnotationAxiom ∷ items)
+      (Leads.line (opened Keyword.AnnotationAxiom (Wanted.AnnotationAxiomIn ∷ Wanted.Axioms ∷ [])) (inr (inr (inr (inl refl)))) (Leads.one (refl, refl) r)))
   axioms_sound s Item.Closing stack begins =
       pushed_sound most known s Item.Closing stack known (End ∷ [])
       (λ rest known' wanted' items r. begins rest known' wanted' (Item.Closing ∷ items)
@@ -70,10 +70,10 @@ module _ (most : ℕ) (known : Known) where
   axioms_sound s item stack begins = tt
 
   -- an item where the ontology's annotations are wanted
-  notes_sound : (s : Symbol) (item : Item) (stack : List Symbol) → Begins s Wanted.Notes → IsSoundStep most known s item stack (notes_taken most known item stack)
-  notes_sound s (Word Key.Annotation) stack begins = noted_sound s Symbol.Notes stack most
-      (λ m at rest known' wanted' items r. begins rest known' wanted' (Word Key.Annotation ∷ items)
-      (annotated Wanted.Notes most m at (λ parts l. inl l) rest known' wanted' items r))
+  notes_sound : (s : Symbol) (item : Item) (stack : List Symbol) → Begins s Wanted.Annotations → IsSoundStep most known s item stack (notes_taken most known item stack)
+  notes_sound s (Word Keyword.Annotation) stack begins = noted_sound s Symbol.Annotations stack most
+      (λ m at rest known' wanted' items r. begins rest known' wanted' (Word Keyword.Annotation ∷ items)
+      (annotated Wanted.Annotations most m at (λ parts l. inl l) rest known' wanted' items r))
   notes_sound s item stack begins = axioms_sound s item stack
       (λ rest known' wanted' items r. begins rest known' wanted' items (Leads.line (Wanted.Axioms ∷ []) (inr refl) r))
 
@@ -81,7 +81,7 @@ module _ (most : ℕ) (known : Known) where
 
   -- an item where an IRI of the ontology may stand
   ontology_iri_sound : (s next : Symbol) (item : Item) (stack : List Symbol) → (IsAnyIri known item → InTurn (next ∷ []) (Follows most known s item stack known))
-      → Begins s Wanted.Notes → IsSoundStep most known s item stack (ontology_iri_taken most known item next stack)
+      → Begins s Wanted.Annotations → IsSoundStep most known s item stack (ontology_iri_taken most known item next stack)
   ontology_iri_sound s next (FullIri i) stack h begins = iri_sound most known s (FullIri i) stack (next ∷ []) h
   ontology_iri_sound s next (Short p l) stack h begins = iri_sound most known s (Short p l) stack (next ∷ []) h
   ontology_iri_sound s next item stack h begins = notes_sound s item stack begins
@@ -90,16 +90,16 @@ module _ (most : ℕ) (known : Known) where
   ontology_sound : (item : Item) (stack : List Symbol) → IsSoundStep most known Symbol.OntologyIri item stack (ontology_iri_taken most known item VersionIri stack)
   ontology_sound item stack = ontology_iri_sound Symbol.OntologyIri VersionIri item stack
       (λ iri. (
-        (λ rest known' wanted' items r. (Wanted.OntologyIri ∷ [], (refl, refl), Leads.line (AnyIri ∷ AnyIri ∷ Wanted.Notes ∷ []) (inr (inr refl)) (Leads.one (iri, refl) r))),
-        (λ rest known' wanted' items r. (Wanted.OntologyIri ∷ [], (refl, refl), Leads.line (AnyIri ∷ Wanted.Notes ∷ []) (inr (inl refl)) (Leads.one (iri, refl) r))),
+        (λ rest known' wanted' items r. (Wanted.OntologyIri ∷ [], (refl, refl), Leads.line (AnyIri ∷ AnyIri ∷ Wanted.Annotations ∷ []) (inr (inr refl)) (Leads.one (iri, refl) r))),
+        (λ rest known' wanted' items r. (Wanted.OntologyIri ∷ [], (refl, refl), Leads.line (AnyIri ∷ Wanted.Annotations ∷ []) (inr (inl refl)) (Leads.one (iri, refl) r))),
       ))
-      (λ rest known' wanted' items r. (Wanted.OntologyIri ∷ [], (refl, refl), Leads.line (Wanted.Notes ∷ []) (inl refl) r))
+      (λ rest known' wanted' items r. (Wanted.OntologyIri ∷ [], (refl, refl), Leads.line (Wanted.Annotations ∷ []) (inl refl) r))
 
   -- an item where the ontology's version IRI is wanted
-  version_sound : (item : Item) (stack : List Symbol) → IsSoundStep most known VersionIri item stack (ontology_iri_taken most known item Symbol.Notes stack)
-  version_sound item stack = ontology_iri_sound VersionIri Symbol.Notes item stack
-      (λ iri rest known' wanted' items r. (AnyIri ∷ Wanted.Notes ∷ [], (inl refl, refl), Leads.one (iri, refl) r))
-      (λ rest known' wanted' items r. (Wanted.Notes ∷ [], (inr refl, refl), r))
+  version_sound : (item : Item) (stack : List Symbol) → IsSoundStep most known VersionIri item stack (ontology_iri_taken most known item Symbol.Annotations stack)
+  version_sound item stack = ontology_iri_sound VersionIri Symbol.Annotations item stack
+      (λ iri rest known' wanted' items r. (AnyIri ∷ Wanted.Annotations ∷ [], (inl refl, refl), Leads.one (iri, refl) r))
+      (λ rest known' wanted' items r. (Wanted.Annotations ∷ [], (inr refl, refl), r))
 
   -- ---- values
 
@@ -133,34 +133,34 @@ module _ (most : ℕ) (known : Known) where
   -- ---- what may be annotated
 
   -- an item in an annotation
-  note_sound : (n : ℕ) (item : Item) (stack : List Symbol) → IsSoundStep most known (Symbol.NoteIn n) item stack (advance most known (Symbol.NoteIn n) item stack)
-  note_sound n (Word Key.Annotation) stack = noted_sound (Symbol.NoteIn n) (Symbol.NoteIn n) stack n
-      (λ m at rest known' wanted' items r. (Wanted.NoteIn n ∷ [], (refl, refl), annotated (Wanted.NoteIn n) n m at (λ parts l. inl l) rest known' wanted' items r))
-  note_sound n item stack = iri_sound most known (Symbol.NoteIn n) item stack (Symbol.Value ∷ [])
+  note_sound : (n : ℕ) (item : Item) (stack : List Symbol) → IsSoundStep most known (Symbol.AnnotationIn n) item stack (advance most known (Symbol.AnnotationIn n) item stack)
+  note_sound n (Word Keyword.Annotation) stack = noted_sound (Symbol.AnnotationIn n) (Symbol.AnnotationIn n) stack n
+      (λ m at rest known' wanted' items r. (Wanted.AnnotationIn n ∷ [], (refl, refl), annotated (Wanted.AnnotationIn n) n m at (λ parts l. inl l) rest known' wanted' items r))
+  note_sound n item stack = iri_sound most known (Symbol.AnnotationIn n) item stack (Symbol.Value ∷ [])
       (λ iri rest known' wanted' items r.
-      (Wanted.NoteIn n ∷ [], (refl, refl), Leads.line (AnyIri ∷ Wanted.Value ∷ Exact Item.Closing ∷ []) (inr refl) (Leads.one (iri, refl) r)))
+      (Wanted.AnnotationIn n ∷ [], (refl, refl), Leads.line (AnyIri ∷ Wanted.Value ∷ Exact Item.Closing ∷ []) (inr refl) (Leads.one (iri, refl) r)))
 
   -- an item in a declaration
   declaration_sound : (item : Item) (stack : List Symbol) → IsSoundStep most known Symbol.DeclarationIn item stack (advance most known Symbol.DeclarationIn item stack)
-  declaration_sound (Word Key.Annotation) stack = noted_sound Symbol.DeclarationIn Symbol.DeclarationIn stack most
+  declaration_sound (Word Keyword.Annotation) stack = noted_sound Symbol.DeclarationIn Symbol.DeclarationIn stack most
       (λ m at rest known' wanted' items r. (Wanted.DeclarationIn ∷ [], (refl, refl), annotated Wanted.DeclarationIn most m at (λ parts l. inl l) rest known' wanted' items r))
-  declaration_sound (Word Key.Class) stack = pushed_sound most known Symbol.DeclarationIn (Word Key.Class) stack known (Opening ∷ Class ∷ Closing ∷ Closing ∷ [])
+  declaration_sound (Word Keyword.Class) stack = pushed_sound most known Symbol.DeclarationIn (Word Keyword.Class) stack known (Opening ∷ Class ∷ Closing ∷ Closing ∷ [])
       (λ c rest known' wanted' items r. (
         Wanted.DeclarationIn ∷ [],
         (refl, refl),
-        Leads.line (opened Key.Class (ClassOf c ∷ Exact Item.Closing ∷ Exact Item.Closing ∷ [])) (inr (inl (c, refl))) (Leads.one (refl, refl) r),
+        Leads.line (opened Keyword.Class (ClassOf c ∷ Exact Item.Closing ∷ Exact Item.Closing ∷ [])) (inr (inl (c, refl))) (Leads.one (refl, refl) r),
       ))
-  declaration_sound (Word Key.Entity) stack = pushed_sound most known Symbol.DeclarationIn (Word Key.Entity) stack known (Opening ∷ Iri ∷ Closing ∷ Closing ∷ [])
+  declaration_sound (Word Keyword.Entity) stack = pushed_sound most known Symbol.DeclarationIn (Word Keyword.Entity) stack known (Opening ∷ Iri ∷ Closing ∷ Closing ∷ [])
       (λ rest known' wanted' items r. (
         Wanted.DeclarationIn ∷ [],
         (refl, refl),
-        Leads.line (opened Key.Entity (AnyIri ∷ Exact Item.Closing ∷ Exact Item.Closing ∷ [])) (inr (inr refl)) (Leads.one (refl, refl) r),
+        Leads.line (opened Keyword.Entity (AnyIri ∷ Exact Item.Closing ∷ Exact Item.Closing ∷ [])) (inr (inr refl)) (Leads.one (refl, refl) r),
       ))
   declaration_sound item stack = tt
 
   -- an item in the assertion of an annotation
   assertion_sound : (item : Item) (stack : List Symbol) → IsSoundStep most known Symbol.AssertionIn item stack (advance most known Symbol.AssertionIn item stack)
-  assertion_sound (Word Key.Annotation) stack = noted_sound Symbol.AssertionIn Symbol.AssertionIn stack most
+  assertion_sound (Word Keyword.Annotation) stack = noted_sound Symbol.AssertionIn Symbol.AssertionIn stack most
       (λ m at rest known' wanted' items r. (Wanted.AssertionIn ∷ [], (refl, refl), annotated Wanted.AssertionIn most m at (λ parts l. inl l) rest known' wanted' items r))
   assertion_sound item stack = iri_sound most known Symbol.AssertionIn item stack (Symbol.Subject ∷ Symbol.Value ∷ [])
       (λ iri rest known' wanted' items r.
@@ -168,7 +168,7 @@ module _ (most : ℕ) (known : Known) where
 
   -- an item in another axiom on annotations
   annotation_axiom_sound : (item : Item) (stack : List Symbol) → IsSoundStep most known Symbol.AnnotationAxiomIn item stack (advance most known Symbol.AnnotationAxiomIn item stack)
-  annotation_axiom_sound (Word Key.Annotation) stack = noted_sound Symbol.AnnotationAxiomIn Symbol.AnnotationAxiomIn stack most
+  annotation_axiom_sound (Word Keyword.Annotation) stack = noted_sound Symbol.AnnotationAxiomIn Symbol.AnnotationAxiomIn stack most
       (λ m at rest known' wanted' items r.
       (Wanted.AnnotationAxiomIn ∷ [], (refl, refl), annotated Wanted.AnnotationAxiomIn most m at (λ parts l. inl l) rest known' wanted' items r))
   annotation_axiom_sound item stack = iri_sound most known Symbol.AnnotationAxiomIn item stack (Iri ∷ Closing ∷ [])
@@ -177,7 +177,7 @@ module _ (most : ℕ) (known : Known) where
 
   -- an item in an axiom, before its operands
   axiom_in_sound : (form : AxiomForm) (item : Item) (stack : List Symbol) → IsSoundStep most known (Symbol.AxiomIn form) item stack (advance most known (Symbol.AxiomIn form) item stack)
-  axiom_in_sound form (Word Key.Annotation) stack = noted_sound (Symbol.AxiomIn form) (Symbol.AxiomIn form) stack most
+  axiom_in_sound form (Word Keyword.Annotation) stack = noted_sound (Symbol.AxiomIn form) (Symbol.AxiomIn form) stack most
       (λ m at a made rest known' wanted' items r.
       (Wanted.AxiomIn form a ∷ [], ((a, made, refl), refl), annotated (Wanted.AxiomIn form a) most m at (λ parts l. inl l) rest known' wanted' items r))
   axiom_in_sound form item stack =
@@ -204,14 +204,14 @@ module _ (most : ℕ) (known : Known) where
 
   -- an item where a document begins
   document_sound : (item : Item) (stack : List Symbol) → IsSoundStep most known Document item stack (advance most known Document item stack)
-  document_sound (Word Key.Prefix) stack = pushed_sound most known Document (Word Key.Prefix) stack known (Opening ∷ Binding ∷ [])
+  document_sound (Word Keyword.Prefix) stack = pushed_sound most known Document (Word Keyword.Prefix) stack known (Opening ∷ Binding ∷ [])
       (λ p rest known' wanted' items r. (
         Text ∷ [],
         (refl, refl),
-        Leads.line (opened Key.Prefix (Exact (Short p []) ∷ Exact Item.Equals ∷ Wanted.PrefixIri p ∷ Exact Item.Closing ∷ Text ∷ [])) (inl (p, refl)) (Leads.one (refl, refl) r),
+        Leads.line (opened Keyword.Prefix (Exact (Short p []) ∷ Exact Item.Equals ∷ Wanted.PrefixIri p ∷ Exact Item.Closing ∷ Text ∷ [])) (inl (p, refl)) (Leads.one (refl, refl) r),
       ))
-  document_sound (Word Key.Ontology) stack = pushed_sound most known Document (Word Key.Ontology) stack known (Opening ∷ Symbol.OntologyIri ∷ [])
-      (λ rest known' wanted' items r. (Text ∷ [], (refl, refl), Leads.line (opened Key.Ontology (Wanted.OntologyIri ∷ [])) (inr refl) (Leads.one (refl, refl) r)))
+  document_sound (Word Keyword.Ontology) stack = pushed_sound most known Document (Word Keyword.Ontology) stack known (Opening ∷ Symbol.OntologyIri ∷ [])
+      (λ rest known' wanted' items r. (Text ∷ [], (refl, refl), Leads.line (opened Keyword.Ontology (Wanted.OntologyIri ∷ [])) (inr refl) (Leads.one (refl, refl) r)))
   document_sound item stack = tt
 
   -- an item in the declaration of a prefix
@@ -243,12 +243,12 @@ module _ (most : ℕ) (known : Known) where
   sound_answer Binding item stack = binding_sound item stack
   sound_answer Symbol.OntologyIri item stack = ontology_sound item stack
   sound_answer VersionIri item stack = version_sound item stack
-  sound_answer Symbol.Notes item stack = notes_sound Symbol.Notes item stack (λ rest known' wanted' items r. (Wanted.Notes ∷ [], (refl, refl), r))
+  sound_answer Symbol.Annotations item stack = notes_sound Symbol.Annotations item stack (λ rest known' wanted' items r. (Wanted.Annotations ∷ [], (refl, refl), r))
   sound_answer Symbol.Axioms item stack = axioms_sound Symbol.Axioms item stack (λ rest known' wanted' items r. (Wanted.Axioms ∷ [], (refl, refl), r))
   sound_answer Symbol.DeclarationIn item stack = declaration_sound item stack
   sound_answer Symbol.AssertionIn item stack = assertion_sound item stack
   sound_answer Symbol.AnnotationAxiomIn item stack = annotation_axiom_sound item stack
-  sound_answer (Symbol.NoteIn n) item stack = note_sound n item stack
+  sound_answer (Symbol.AnnotationIn n) item stack = note_sound n item stack
   sound_answer Symbol.Value item stack = value_sound item stack
   sound_answer QuotedEnd item stack = quoted_end_sound item stack
   sound_answer (Symbol.AxiomIn form) item stack = axiom_in_sound form item stack

@@ -17,7 +17,7 @@ use Rattle.cd_grammar.specs.declared.symbol.Symbol.TheVariants.{Inside}
 use Rattle.cd_syntax.specs.declared.words.AxiomForm.{AxiomForm}
 use Rattle.cd_syntax.specs.declared.words.ExprForm.{ExprForm}
 use Rattle.cd_syntax.specs.declared.words.Form.{Form}
-use Rattle.cd_syntax.specs.declared.words.Key.{Key}
+use Rattle.cd_syntax.specs.declared.words.Keyword.{Keyword}
 use Rattle.cd_syntax.specs.Grammar.{with_class, with_role}
 use Rattle.cd_syntax.proofs.ItemGrammar.{Wanted, Exact, ClassOf, RoleOf, ClosingOf, ExprOf, Means, Leads, head_of, operands, opened, IsBuilt, Line, IsMade}
 use Rattle.cd_syntax.specs.Named.{iri_of, is_role}
@@ -101,11 +101,11 @@ made_expression made (Some e) h = (e, refl, cc)
 
 -- all the operands of an expression are a line of it, and it is handed on
 expression_line : (form : ExprForm) (n : ℕ) (wanted : List Wanted) (handed : List Expr) → Completes (bare (Form.Expr form) n) [] wanted handed
-    → (e : Expr) × (handed ≡ e ∷ []) × IsBuilt (suc n) e (opened (Key.Expr form) wanted)
+    → (e : Expr) × (handed ≡ e ∷ []) × IsBuilt (suc n) e (opened (Keyword.Expr form) wanted)
 expression_line form n wanted handed c =
     let made = made_expression c.made (expression_of form c.heads c.parts) c.makes in
     let written = c.wants ∙ ap (λ (m : Made). operands (Form.Expr form) n c.heads c.parts ++ last_of m ∷ []) made.2 in
-    (made.0, c.hands ∙ ap handed_by made.2, (form, c.heads, c.parts, made.1, ap (opened (Key.Expr form)) written))
+    (made.0, c.hands ∙ ap handed_by made.2, (form, c.heads, c.parts, made.1, ap (opened (Keyword.Expr form)) written))
 
 -- operands of an axiom make an axiom
 made_axiom : (made : Made) (o : Option Axiom) → option_map Made.Axiom o ≡ Some made → (a : Axiom) × (o ≡ Some a) × (made ≡ Made.Axiom a)
@@ -177,7 +177,7 @@ module _ (most : ℕ) (known : Known) where
 
   -- the word of an expression, whose value its operands say
   deeper_sound : (frame : Frame) (form : ExprForm) (stack : List Symbol) (wants : Bool) (n : ℕ) → frame.nesting ≡ n
-      → IsSoundStep most known (Inside frame) (Word (Key.Expr form)) stack (deeper wants n known form (Inside frame ∷ stack))
+      → IsSoundStep most known (Inside frame) (Word (Keyword.Expr form)) stack (deeper wants n known form (Inside frame ∷ stack))
   deeper_sound frame form stack false n at = tt
   deeper_sound frame form stack true zero at = tt
   deeper_sound frame form stack true (suc n) at = λ wanted f known' wanted' items r.
@@ -188,7 +188,7 @@ module _ (most : ℕ) (known : Known) where
       let written : wanted ≡ Exact Item.Opening ∷ g.0 ++ g.2 = f.4 ∙ ap (λ (x : List Wanted). x ++ f.2) f.3.0 ∙ ap (λ (x : List Wanted). Exact Item.Opening ∷ x) g.4 in (
         ExprOf frame.nesting e ∷ g.2,
         (ExprOf frame.nesting e ∷ h.0, h.1, h.2, part_completes frame e h.0 h.1 h.3, ap (λ (x : List Wanted). ExprOf frame.nesting e ∷ x) h.4, h.5),
-        Leads.line (opened (Key.Expr form) g.0) (inr (subst (λ (m : ℕ). IsBuilt m e (opened (Key.Expr form) g.0)) (sym at) built.2))
+        Leads.line (opened (Keyword.Expr form) g.0) (inr (subst (λ (m : ℕ). IsBuilt m e (opened (Keyword.Expr form) g.0)) (sym at) built.2))
             (Leads.one (refl, refl) (subst (λ (x : List Wanted). Leads most known x items known' wanted') written r)),
       )
 
@@ -213,7 +213,7 @@ module _ (most : ℕ) (known : Known) where
   -- an item behind operands
   pub inside_sound : (frame : Frame) (item : Item) (stack : List Symbol) → IsSoundStep most known (Inside frame) item stack (inside_taken known frame item stack)
   inside_sound frame Item.Closing stack = closed_sound frame stack (made_of frame.form frame.heads frame.parts) refl
-  inside_sound frame (Word (Key.Expr form)) stack = deeper_sound frame form stack (wants_part_next frame) frame.nesting refl
+  inside_sound frame (Word (Keyword.Expr form)) stack = deeper_sound frame form stack (wants_part_next frame) frame.nesting refl
   inside_sound frame item stack = iri_operand_sound frame item stack (iri_of known item) refl
 
   -- what an axiom's operands take stands where the axiom may still be annotated

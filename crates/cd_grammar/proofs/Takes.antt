@@ -7,7 +7,7 @@ use Rattle.cd_syntax.specs.declared.known.Known.{Known}
 use Rattle.cd_grammar.specs.declared.symbol.Symbol.{Symbol}
 use Rattle.cd_grammar.specs.declared.symbol.Symbol.TheVariants.{Class, Document, Binding, Inside}
 use Rattle.cd_syntax.specs.Grammar.{nesting, begun}
-use Rattle.cd_syntax.proofs.ItemGrammar.{Wanted, Text, AxiomIn, ExprOf, IsNoted, Line, Leads, IsWhole}
+use Rattle.cd_syntax.proofs.ItemGrammar.{Wanted, Text, AxiomIn, ExprOf, IsAnnotated, Line, Leads, IsWhole}
 use Rattle.cd_grammar.specs.Machine.{State, after, start}
 use Rattle.cd_grammar.proofs.Complete.{complete}
 use Rattle.cd_grammar.proofs.Fills.{Wants, Fills}
@@ -20,7 +20,7 @@ one_more [] x e = cc
 one_more (y ∷ xs) x e = cc
 
 -- no annotation is empty
-no_noted : (n : ℕ) (w : Wanted) → IsNoted n w [] → ⊥
+no_noted : (n : ℕ) (w : Wanted) → IsAnnotated n w [] → ⊥
 no_noted zero w l = l
 no_noted (suc n) w l = cc
 

@@ -10,9 +10,9 @@ use Rattle.cd_syntax.specs.declared.known.Known.{Known}
 use Rattle.cd_syntax.specs.declared.refusal.Refusal.{Refusal}
 use Rattle.cd_grammar.specs.declared.symbol.Frame.{Frame}
 use Rattle.cd_grammar.specs.declared.symbol.Symbol.{Symbol}
-use Rattle.cd_grammar.specs.declared.symbol.Symbol.TheVariants.{PrefixIri, NoteIn, AxiomIn, Inside}
+use Rattle.cd_grammar.specs.declared.symbol.Symbol.TheVariants.{PrefixIri, AnnotationIn, AxiomIn, Inside}
 use Rattle.cd_syntax.specs.declared.words.Form.{Form}
-use Rattle.cd_syntax.specs.declared.words.Key.{Key}
+use Rattle.cd_syntax.specs.declared.words.Keyword.{Keyword}
 use Rattle.cd_syntax.specs.Grammar.{top_role, bottom_role, nesting}
 use Rattle.cd_syntax.specs.Items.{PlacedItem}
 use Rattle.cd_syntax.specs.Operands.{has_class_head}
@@ -42,7 +42,7 @@ refused_role (Some i) = number_of (bytes_eq i top_role) (bytes_eq i bottom_role)
 
 -- the number of a refused construct, where a role is wanted or not
 abbrev pub refused : Known → Item → Bool → Option ℕ
-refused known (Word (Key.Refused number)) wanted = Some number
+refused known (Word (Keyword.Refused number)) wanted = Some number
 refused known item true = refused_role (iri_of known item)
 refused known item false = None
 
@@ -61,8 +61,8 @@ is_zero (suc n) = false
 
 -- only the limit keeps the word from standing here
 abbrev pub is_over : Symbol → Item → Bool
-is_over (NoteIn n) (Word Key.Annotation) = is_zero n
-is_over (Inside frame) (Word (Key.Expr form)) = wants_part_next frame && is_zero frame.nesting
+is_over (AnnotationIn n) (Word Keyword.Annotation) = is_zero n
+is_over (Inside frame) (Word (Keyword.Expr form)) = wants_part_next frame && is_zero frame.nesting
 is_over symbol item = false
 
 abbrev pub first_of_causes : Option ℕ → Bool → Bool → Bool → Cause

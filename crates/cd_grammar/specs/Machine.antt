@@ -12,10 +12,10 @@ use Rattle.cd_syntax.specs.declared.known.Known.{Known}
 use Rattle.cd_syntax.specs.declared.operands.Made.{Made}
 use Rattle.cd_grammar.specs.declared.symbol.Frame.{Frame}
 use Rattle.cd_grammar.specs.declared.symbol.Symbol.{Symbol}
-use Rattle.cd_grammar.specs.declared.symbol.Symbol.TheVariants.{Opening, Closing, Equals, End, Iri, Subject, Class, PrefixIri, Document, Binding, OntologyIri, VersionIri, Notes, Axioms, DeclarationIn, AssertionIn, AnnotationAxiomIn, NoteIn, Value, QuotedEnd, AxiomIn, Inside}
+use Rattle.cd_grammar.specs.declared.symbol.Symbol.TheVariants.{Opening, Closing, Equals, End, Iri, Subject, Class, PrefixIri, Document, Binding, OntologyIri, VersionIri, Annotations, Axioms, DeclarationIn, AssertionIn, AnnotationAxiomIn, AnnotationIn, Value, QuotedEnd, AxiomIn, Inside}
 use Rattle.cd_syntax.specs.declared.words.ExprForm.{ExprForm}
 use Rattle.cd_syntax.specs.declared.words.Form.{Form}
-use Rattle.cd_syntax.specs.declared.words.Key.{Key}
+use Rattle.cd_syntax.specs.declared.words.Keyword.{Keyword}
 use Rattle.cd_syntax.specs.Grammar.{begun, with_prefix, with_class, with_role, with_axiom}
 use Rattle.cd_syntax.specs.Named.{iri_of, is_subject, is_role}
 use Rattle.cd_syntax.specs.Operands.{wants_head, wants_part, has_class_head, made_of}
@@ -46,7 +46,7 @@ bound known p i stack (Some j) = taken_if (bytes_eq j i) (with_prefix known p i,
 -- the word of an annotation, where so many more may stand inside each other
 abbrev pub noted : ℕ → Known → List Symbol → Option State
 noted zero known stack = None
-noted (suc n) known stack = Some (known, Opening ∷ NoteIn n ∷ stack)
+noted (suc n) known stack = Some (known, Opening ∷ AnnotationIn n ∷ stack)
 
 -- ---- operands
 
@@ -100,21 +100,21 @@ operand_taken known frame stack (Some i) =
 -- an item behind these operands
 abbrev pub inside_taken : Known → Frame → Item → List Symbol → Option State
 inside_taken known frame Item.Closing stack = closed known (made_of frame.form frame.heads frame.parts) stack
-inside_taken known frame (Word (Key.Expr e)) stack = deeper (wants_part_next frame) frame.nesting known e (Inside frame ∷ stack)
+inside_taken known frame (Word (Keyword.Expr e)) stack = deeper (wants_part_next frame) frame.nesting known e (Inside frame ∷ stack)
 inside_taken known frame item stack = operand_taken known frame stack (iri_of known item)
 
 -- ---- one item
 
 abbrev pub axioms_taken : Known → Item → List Symbol → Option State
-axioms_taken known (Word Key.Declaration) stack = Some (known, Opening ∷ DeclarationIn ∷ Axioms ∷ stack)
-axioms_taken known (Word (Key.Axiom form)) stack = Some (known, Opening ∷ AxiomIn form ∷ Axioms ∷ stack)
-axioms_taken known (Word Key.AnnotationAssertion) stack = Some (known, Opening ∷ AssertionIn ∷ Axioms ∷ stack)
-axioms_taken known (Word Key.AnnotationAxiom) stack = Some (known, Opening ∷ AnnotationAxiomIn ∷ Axioms ∷ stack)
+axioms_taken known (Word Keyword.Declaration) stack = Some (known, Opening ∷ DeclarationIn ∷ Axioms ∷ stack)
+axioms_taken known (Word (Keyword.Axiom form)) stack = Some (known, Opening ∷ AxiomIn form ∷ Axioms ∷ stack)
+axioms_taken known (Word Keyword.AnnotationAssertion) stack = Some (known, Opening ∷ AssertionIn ∷ Axioms ∷ stack)
+axioms_taken known (Word Keyword.AnnotationAxiom) stack = Some (known, Opening ∷ AnnotationAxiomIn ∷ Axioms ∷ stack)
 axioms_taken known Item.Closing stack = Some (known, End ∷ stack)
 axioms_taken known item stack = None
 
 abbrev pub notes_taken : ℕ → Known → Item → List Symbol → Option State
-notes_taken most known (Word Key.Annotation) stack = noted most known (Notes ∷ stack)
+notes_taken most known (Word Keyword.Annotation) stack = noted most known (Annotations ∷ stack)
 notes_taken most known item stack = axioms_taken known item stack
 
 -- an IRI, and then the second symbol, or what the ontology's annotations begin with
@@ -133,28 +133,28 @@ advance most known Iri item stack = by_iri (iri_of known item) (known, stack)
 advance most known Subject item stack = taken_if (is_subject known item) (known, stack)
 advance most known Class item stack = class_taken known stack (iri_of known item)
 advance most known (PrefixIri p) (FullIri i) stack = bound known p i stack (meaning known.prefixes p)
-advance most known Document (Word Key.Prefix) stack = Some (known, Opening ∷ Binding ∷ stack)
-advance most known Document (Word Key.Ontology) stack = Some (known, Opening ∷ OntologyIri ∷ stack)
+advance most known Document (Word Keyword.Prefix) stack = Some (known, Opening ∷ Binding ∷ stack)
+advance most known Document (Word Keyword.Ontology) stack = Some (known, Opening ∷ OntologyIri ∷ stack)
 advance most known Binding (Short p []) stack = Some (known, Equals ∷ PrefixIri p ∷ Closing ∷ Document ∷ stack)
 advance most known OntologyIri item stack = ontology_iri_taken most known item VersionIri stack
-advance most known VersionIri item stack = ontology_iri_taken most known item Notes stack
-advance most known Notes item stack = notes_taken most known item stack
+advance most known VersionIri item stack = ontology_iri_taken most known item Annotations stack
+advance most known Annotations item stack = notes_taken most known item stack
 advance most known Axioms item stack = axioms_taken known item stack
-advance most known DeclarationIn (Word Key.Annotation) stack = noted most known (DeclarationIn ∷ stack)
-advance most known DeclarationIn (Word Key.Class) stack = Some (known, Opening ∷ Class ∷ Closing ∷ Closing ∷ stack)
-advance most known DeclarationIn (Word Key.Entity) stack = Some (known, Opening ∷ Iri ∷ Closing ∷ Closing ∷ stack)
-advance most known AssertionIn (Word Key.Annotation) stack = noted most known (AssertionIn ∷ stack)
+advance most known DeclarationIn (Word Keyword.Annotation) stack = noted most known (DeclarationIn ∷ stack)
+advance most known DeclarationIn (Word Keyword.Class) stack = Some (known, Opening ∷ Class ∷ Closing ∷ Closing ∷ stack)
+advance most known DeclarationIn (Word Keyword.Entity) stack = Some (known, Opening ∷ Iri ∷ Closing ∷ Closing ∷ stack)
+advance most known AssertionIn (Word Keyword.Annotation) stack = noted most known (AssertionIn ∷ stack)
 advance most known AssertionIn item stack = by_iri (iri_of known item) (known, Subject ∷ Value ∷ stack)
-advance most known AnnotationAxiomIn (Word Key.Annotation) stack = noted most known (AnnotationAxiomIn ∷ stack)
+advance most known AnnotationAxiomIn (Word Keyword.Annotation) stack = noted most known (AnnotationAxiomIn ∷ stack)
 advance most known AnnotationAxiomIn item stack = by_iri (iri_of known item) (known, Iri ∷ Closing ∷ stack)
-advance most known (NoteIn n) (Word Key.Annotation) stack = noted n known (NoteIn n ∷ stack)
-advance most known (NoteIn n) item stack = by_iri (iri_of known item) (known, Value ∷ stack)
+advance most known (AnnotationIn n) (Word Keyword.Annotation) stack = noted n known (AnnotationIn n ∷ stack)
+advance most known (AnnotationIn n) item stack = by_iri (iri_of known item) (known, Value ∷ stack)
 advance most known Value Item.Quoted stack = Some (known, QuotedEnd ∷ stack)
 advance most known Value item stack = taken_if (is_subject known item) (known, Closing ∷ stack)
 advance most known QuotedEnd Item.Closing stack = Some (known, stack)
 advance most known QuotedEnd Item.Lang stack = Some (known, Closing ∷ stack)
 advance most known QuotedEnd Item.Carets stack = Some (known, Iri ∷ Closing ∷ stack)
-advance most known (AxiomIn form) (Word Key.Annotation) stack = noted most known (AxiomIn form ∷ stack)
+advance most known (AxiomIn form) (Word Keyword.Annotation) stack = noted most known (AxiomIn form ∷ stack)
 advance most known (AxiomIn form) item stack = inside_taken known (bare (Form.Axiom form) most) item stack
 advance most known (Inside frame) item stack = inside_taken known frame item stack
 advance most known symbol item stack = None

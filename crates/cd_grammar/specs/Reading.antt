@@ -12,7 +12,7 @@ use Rattle.cd_grammar.specs.declared.reader.Reader.{Reader}
 use Rattle.cd_syntax.specs.declared.refusal.Refusal.{Refusal}
 use Rattle.cd_grammar.specs.declared.symbol.Symbol.{Symbol}
 use Rattle.cd_grammar.specs.Causes.{cause_of, Standing, Going, Stopped, stand_after}
-use Rattle.cd_syntax.specs.Bounds.{IsWithin}
+use Rattle.cd_syntax.specs.Bounds.{IsSmall}
 use Rattle.cd_syntax.specs.Grammar.{IsRead, IsOnly, begun}
 use Rattle.cd_grammar.specs.Machine.{State}
 use Rattle.cd_syntax.specs.Items.{placed_items}
@@ -36,7 +36,7 @@ pub record IsReading (reader : Reader) (fed : List ℕ) : Type 0 where
 
 -- what a reader answers at the end of these bytes
 abbrev pub IsFinished : List ℕ → Result Document Refusal → Type 0
-IsFinished fed (Ok document) = IsRead fed document × IsOnly fed document × IsWithin (length fed) document × All IsIri document.classes
+IsFinished fed (Ok document) = IsRead fed document × IsOnly fed document × IsSmall (length fed) document × All IsIri document.classes
 IsFinished fed (Err refusal) = IsFaulty fed refusal × IsUnread fed
 
 -- ---- one item

@@ -9,7 +9,7 @@ ghost use Rattle.cd_syntax.specs.declared.words.Form.{Form};
 use crate::symbol::{Frame, Symbol};
 use cd_base::Memory;
 use cd_names::ExpandFault;
-use cd_syntax::{AxiomForm, Cause, Form, Item, Key, Known, has_class_head, wants_head, wants_part};
+use cd_syntax::{AxiomForm, Cause, Form, Item, Keyword, Known, has_class_head, wants_head, wants_part};
 use std::alloc::Global;
 
 /// Whether behind these operands a role may stand.
@@ -53,8 +53,8 @@ pub(crate) fn is_over(symbol: &Symbol, item: &Item) -> bool
     ensures { result ≡ is_over symbol.now item.now }
 {
     match (symbol, item) {
-        (Symbol::NoteIn(inner), Item::Word(Key::Annotation)) => *inner == 0,
-        (Symbol::Inside(frame), Item::Word(Key::Expr(_))) => {
+        (Symbol::AnnotationIn(inner), Item::Word(Keyword::Annotation)) => *inner == 0,
+        (Symbol::Inside(frame), Item::Word(Keyword::Expr(_))) => {
             wants_part(
                 frame.form,
                 frame.heads.items().len(),
@@ -99,7 +99,7 @@ fn refused_role(alloc: Global, known: &Known, item: &Item) -> Result<Option<u8>,
 fn refused(alloc: Global, known: &Known, item: &Item, wanted: bool) -> Result<Option<u8>, Memory>
     ensures { IfOk result (λ number. number ≡ refused known.now item.now wanted) }
 {
-    if let Item::Word(Key::Refused(number)) = item {
+    if let Item::Word(Keyword::Refused(number)) = item {
         return Ok(Some(*number));
     }
     if !wanted {

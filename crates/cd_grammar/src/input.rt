@@ -5,7 +5,7 @@ ghost use Rattle.cd_base.specs.Iri.{IsIri};
 ghost use Rattle.cd_io.specs.Causes.{Rose};
 ghost use Rattle.cd_io.specs.Streams.{LosesAtMost};
 ghost use Rattle.cd_syntax.specs.Grammar.{IsRead, IsOnly};
-ghost use Rattle.cd_syntax.specs.Bounds.{IsWithin};
+ghost use Rattle.cd_syntax.specs.Bounds.{IsSmall};
 ghost use Rattle.cd_grammar.specs.Reading.{IsReading};
 ghost use Rattle.cd_syntax.specs.Refusal.{IsRefused};
 ghost use Rattle.cd_grammar.specs.Taking.{IsFedFrom};
@@ -65,8 +65,8 @@ pub fn read_document<S: Source>(
     ensures taken { LosesAtMost (S.left source.old) (S.left source.new) (limits.now.max_bytes + 1) }
 
     // How large the document is, and of which bytes its names are.
-    ensures within { IfOk result (λ document. IsWithin limits.now.max_bytes document) }
-    ensures small { IfSome (S.left source.old) (λ input. IfOk result (λ document. IsWithin (length input) document)) }
+    ensures within { IfOk result (λ document. IsSmall limits.now.max_bytes document) }
+    ensures small { IfSome (S.left source.old) (λ input. IfOk result (λ document. IsSmall (length input) document)) }
     ensures iris { IfOk result (λ document. All IsIri document.classes) }
 
     // Each refusal has its cause.

@@ -8,14 +8,14 @@ ghost use Rattle.cd_syntax.specs.Operands.{made_of};
 ghost use Rattle.cd_syntax.specs.declared.item.Item.{Item};
 ghost use Rattle.cd_grammar.specs.declared.symbol.Symbol.{Symbol};
 ghost use Rattle.cd_syntax.specs.declared.words.Form.{Form};
-ghost use Rattle.cd_syntax.specs.declared.words.Key.{Key};
+ghost use Rattle.cd_syntax.specs.declared.words.Keyword.{Keyword};
 
 use crate::symbol::{Frame, Stack, Symbol};
 use cd_base::{Memory, Seq};
 use cd_meaning::Expr;
 use cd_names::DeclareFault;
 use cd_syntax::{
-    ExprForm, Form, Item, Key, Known, Made, class_of, has_class_head, is_iri, is_subject, make,
+    ExprForm, Form, Item, Keyword, Known, Made, class_of, has_class_head, is_iri, is_subject, make,
     role_of, wants_head, wants_part,
 };
 use std::alloc::Global;
@@ -30,7 +30,7 @@ fn noted(known: &Known, stack: &mut Stack, nesting: u64) -> Result<bool, Memory>
     if nesting == 0 {
         return Ok(false);
     }
-    stack.push(Symbol::NoteIn(nesting - 1))?;
+    stack.push(Symbol::AnnotationIn(nesting - 1))?;
     stack.push(Symbol::Opening)?;
     Ok(true)
 }
@@ -44,10 +44,10 @@ fn axioms(known: &Known, stack: &mut Stack, item: &Item) -> Result<bool, Memory>
         return Ok(true);
     }
     let inside = match item {
-        Item::Word(Key::Declaration) => Symbol::DeclarationIn,
-        Item::Word(Key::Axiom(form)) => Symbol::AxiomIn(*form),
-        Item::Word(Key::AnnotationAssertion) => Symbol::AssertionIn,
-        Item::Word(Key::AnnotationAxiom) => Symbol::AnnotationAxiomIn,
+        Item::Word(Keyword::Declaration) => Symbol::DeclarationIn,
+        Item::Word(Keyword::Axiom(form)) => Symbol::AxiomIn(*form),
+        Item::Word(Keyword::AnnotationAssertion) => Symbol::AssertionIn,
+        Item::Word(Keyword::AnnotationAxiom) => Symbol::AnnotationAxiomIn,
         _ => return Ok(false),
     };
     stack.push(Symbol::Axioms)?;
@@ -60,8 +60,8 @@ fn axioms(known: &Known, stack: &mut Stack, item: &Item) -> Result<bool, Memory>
 fn notes(known: &Known, stack: &mut Stack, item: &Item) -> Result<bool, Memory>
     ensures { IfOk result (λ ok. IsTaken (notes_taken nesting known.now item.now stack.old) known.now known.now stack.new ok) }
 {
-    if let Item::Word(Key::Annotation) = item {
-        stack.push(Symbol::Notes)?;
+    if let Item::Word(Keyword::Annotation) = item {
+        stack.push(Symbol::Annotations)?;
         return noted(known, stack, NESTING);
     }
     axioms(known, stack, item)
@@ -85,8 +85,8 @@ fn document(known: &Known, stack: &mut Stack, item: &Item) -> Result<bool, Memor
     ensures { IfOk result (λ ok. IsTaken (advance nesting known.now Symbol.Document item.now stack.old) known.now known.now stack.new ok) }
 {
     let inside = match item {
-        Item::Word(Key::Prefix) => Symbol::Binding,
-        Item::Word(Key::Ontology) => Symbol::OntologyIri,
+        Item::Word(Keyword::Prefix) => Symbol::Binding,
+        Item::Word(Keyword::Ontology) => Symbol::OntologyIri,
         _ => return Ok(false),
     };
     stack.push(inside)?;
@@ -137,12 +137,12 @@ fn declaration_in(known: &Known, stack: &mut Stack, item: &Item) -> Result<bool,
     ensures { IfOk result (λ ok. IsTaken (advance nesting known.now Symbol.DeclarationIn item.now stack.old) known.now known.now stack.new ok) }
 {
     let inside = match item {
-        Item::Word(Key::Annotation) => {
+        Item::Word(Keyword::Annotation) => {
             stack.push(Symbol::DeclarationIn)?;
             return noted(known, stack, NESTING);
         }
-        Item::Word(Key::Class) => Symbol::Class,
-        Item::Word(Key::Entity) => Symbol::Iri,
+        Item::Word(Keyword::Class) => Symbol::Class,
+        Item::Word(Keyword::Entity) => Symbol::Iri,
         _ => return Ok(false),
     };
     stack.push(Symbol::Closing)?;
@@ -156,7 +156,7 @@ fn declaration_in(known: &Known, stack: &mut Stack, item: &Item) -> Result<bool,
 fn assertion_in(known: &Known, stack: &mut Stack, item: &Item) -> Result<bool, Memory>
     ensures { IfOk result (λ ok. IsTaken (advance nesting known.now Symbol.AssertionIn item.now stack.old) known.now known.now stack.new ok) }
 {
-    if let Item::Word(Key::Annotation) = item {
+    if let Item::Word(Keyword::Annotation) = item {
         stack.push(Symbol::AssertionIn)?;
         return noted(known, stack, NESTING);
     }
@@ -169,7 +169,7 @@ fn assertion_in(known: &Known, stack: &mut Stack, item: &Item) -> Result<bool, M
 fn annotation_axiom_in(known: &Known, stack: &mut Stack, item: &Item) -> Result<bool, Memory>
     ensures { IfOk result (λ ok. IsTaken (advance nesting known.now Symbol.AnnotationAxiomIn item.now stack.old) known.now known.now stack.new ok) }
 {
-    if let Item::Word(Key::Annotation) = item {
+    if let Item::Word(Keyword::Annotation) = item {
         stack.push(Symbol::AnnotationAxiomIn)?;
         return noted(known, stack, NESTING);
     }
@@ -180,10 +180,10 @@ fn annotation_axiom_in(known: &Known, stack: &mut Stack, item: &Item) -> Result<
 
 /// Takes an annotation of an annotation, or its property.
 fn note_in(known: &Known, stack: &mut Stack, item: &Item, inner: u64) -> Result<bool, Memory>
-    ensures { IfOk result (λ ok. IsTaken (advance nesting known.now (Symbol.NoteIn inner) item.now stack.old) known.now known.now stack.new ok) }
+    ensures { IfOk result (λ ok. IsTaken (advance nesting known.now (Symbol.AnnotationIn inner) item.now stack.old) known.now known.now stack.new ok) }
 {
-    if let Item::Word(Key::Annotation) = item {
-        stack.push(Symbol::NoteIn(inner))?;
+    if let Item::Word(Keyword::Annotation) = item {
+        stack.push(Symbol::AnnotationIn(inner))?;
         return noted(known, stack, inner);
     }
     stack.push(Symbol::Value)?;
@@ -339,7 +339,7 @@ fn inside(
 {
     match item {
         Item::Closing => close(alloc, known, stack, frame),
-        Item::Word(Key::Expr(form)) => deepen(alloc, known, stack, frame, *form),
+        Item::Word(Keyword::Expr(form)) => deepen(alloc, known, stack, frame, *form),
         _ => operand(alloc, known, stack, frame, item),
     }
 }
@@ -360,13 +360,13 @@ fn advance_plain(
         Symbol::Document => document(known, stack, item),
         Symbol::Binding => binding(alloc, known, stack, item),
         Symbol::OntologyIri => ontology_iri(known, stack, item, Symbol::VersionIri),
-        Symbol::VersionIri => ontology_iri(known, stack, item, Symbol::Notes),
-        Symbol::Notes => notes(known, stack, item),
+        Symbol::VersionIri => ontology_iri(known, stack, item, Symbol::Annotations),
+        Symbol::Annotations => notes(known, stack, item),
         Symbol::Axioms => axioms(known, stack, item),
         Symbol::DeclarationIn => declaration_in(known, stack, item),
         Symbol::AssertionIn => assertion_in(known, stack, item),
         Symbol::AnnotationAxiomIn => annotation_axiom_in(known, stack, item),
-        Symbol::NoteIn(inner) => note_in(known, stack, item, inner),
+        Symbol::AnnotationIn(inner) => note_in(known, stack, item, inner),
         Symbol::Value => value(known, stack, item),
         Symbol::QuotedEnd => quoted_end(known, stack, item),
         _ => Ok(is_mark(&symbol, item)),
@@ -404,7 +404,7 @@ pub(crate) fn advance(
         Symbol::Class => Ok(class_of(alloc, known, item)?.is_some()),
         Symbol::PrefixIri(prefix) => prefix_iri(alloc, known, stack, &prefix, item),
         Symbol::AxiomIn(form) => {
-            if let Item::Word(Key::Annotation) = item {
+            if let Item::Word(Keyword::Annotation) = item {
                 stack.push(Symbol::AxiomIn(form))?;
                 return noted(known, stack, NESTING);
             }

@@ -32,7 +32,7 @@ pub enum Symbol {
     /// The ontology's version IRI, and all that follows.
     VersionIri,
     /// The ontology's annotations, and all that follows.
-    Notes,
+    Annotations,
     /// Axioms, and all that follows.
     Axioms,
     /// A declaration from behind its parenthesis on. The next three likewise.
@@ -40,7 +40,7 @@ pub enum Symbol {
     AssertionIn,
     AnnotationAxiomIn,
     /// An annotation, within which so many may stand inside each other.
-    NoteIn(u64),
+    AnnotationIn(u64),
     /// The value of an annotation, and the parenthesis behind it.
     Value,
     /// What follows the string of an annotation's value, and the parenthesis behind it.

@@ -6,7 +6,7 @@ use Rattle.std.proofs.Math.ListN.{get_or-eq_default}
 use Rattle.std.proofs.lemmas.Bool.{cases_Bool, cases_lt, eqb-true, eq-eqb, ltb-true, and_parts, cond-true, cond-false, cond_both}
 use Rattle.std.proofs.lemmas.List.Elements.{All-nil, All-cons, All-head, All-tail, All-from_get_or, Contains-append_right, Contains-get_or}
 use Rattle.cd_base.specs.declared.normal.RolePair.{RolePair}
-use Rattle.cd_base.specs.Lists.{Member}
+use Rattle.cd_base.specs.Lists.{OneOf}
 use Rattle.cd_base.specs.Normal.{has_roles_below, Under}
 use Rattle.cd_base.specs.Normal.Under.{same, step}
 use Rattle.cd_index.specs.Lists.{AreLists}
@@ -19,7 +19,7 @@ head_or_later : {X : Type 0} (x : X) (xs : List X) (y : X) → Contains (x ∷ x
 head_or_later x xs y (zero, lt, is) = inl is
 head_or_later x xs y (suc k, lt, is) = inr (k, omega arith, is)
 
-told_of_pair : (pairs : List RolePair) (p : RolePair) → Member p pairs → Contains (told_above pairs p.lower) p.higher
+told_of_pair : (pairs : List RolePair) (p : RolePair) → OneOf p pairs → Contains (told_above pairs p.lower) p.higher
 told_of_pair [] p m = absurd m
 told_of_pair (q ∷ pairs) p (inl is) =
     subst (λ (o : RolePair). Contains (told_above (q ∷ pairs) o.lower) o.higher) (sym is)
@@ -31,7 +31,7 @@ told_of_pair (q ∷ pairs) p (inr m) =
     cond_both (q.lower == p.lower) (q ∷ filter (λ (o : RolePair). o.lower == p.lower) pairs) (filter (λ (o : RolePair). o.lower == p.lower) pairs)
     (λ l. Contains (map (λ (o : RolePair). o.higher) l) p.higher) (λ here. Contains-append_right (q.higher ∷ []) (told_above pairs p.lower) p.higher rest) (λ other. rest)
 
-pair_of_told : (pairs : List RolePair) (r s : ℕ) → Contains (told_above pairs r) s → (p : RolePair) × Member p pairs × (p.lower ≡ r) × (p.higher ≡ s)
+pair_of_told : (pairs : List RolePair) (r s : ℕ) → Contains (told_above pairs r) s → (p : RolePair) × OneOf p pairs × (p.lower ≡ r) × (p.higher ≡ s)
 pair_of_told [] r s h = absurd (omega (arith, h.1))
 pair_of_told (q ∷ pairs) r s h = elim (cases_Bool (q.lower == r)) [
   | inl here ↦ elim (head_or_later q.higher (told_above pairs r) s
@@ -56,7 +56,7 @@ pairs_below n (p ∷ pairs) h =
     let ends = and_parts (nat_lt p.lower n) (nat_lt p.higher n) both.0 in
     All-cons (λ (q : RolePair). (q.lower < n) × (q.higher < n)) p pairs (ltb-true p.lower n ends.0, ltb-true p.higher n ends.1) (pairs_below n pairs both.1)
 
-of_member : (P : RolePair → Type 0) (pairs : List RolePair) → All P pairs → (p : RolePair) → Member p pairs → P p
+of_member : (P : RolePair → Type 0) (pairs : List RolePair) → All P pairs → (p : RolePair) → OneOf p pairs → P p
 of_member P [] all p m = absurd m
 of_member P (q ∷ pairs) all p (inl is) = subst P (sym is) (All-head P q pairs all)
 of_member P (q ∷ pairs) all p (inr m) = of_member P pairs (All-tail P q pairs all) p m

@@ -1,7 +1,7 @@
 -- The elements of a domain by kinds: those that no expression of a list tells apart are of one kind. There are finitely many kinds.
 use Rattle.std.proofs.Common.{◌≡◌, ◌<◌, ◌≤◌, ◌+◌, ◌⊎◌, ◌↔◌, ℕ, Bool, true, false, IsTrue, List, [], ◌∷◌, refl, sym, subst, inl, inr, arith}
 use Rattle.std.proofs.lemmas.Bool.{false≢true}
-use Rattle.cd_base.specs.Lists.{Member}
+use Rattle.cd_base.specs.Lists.{OneOf}
 use Rattle.cd_meaning.specs.declared.expression.Expr.{Expr}
 use Rattle.cd_meaning.specs.AnyDomain.{Structure}
 use Rattle.cd_meaning.proofs.Tables.{all_unrefuted}
@@ -45,7 +45,7 @@ module _ {D : Type 0} (s : Structure D) where
   kind_below (e ∷ es) x = next_below (s.has e x) (kinds es) (kind es x) (kind_below es x)
 
   -- elements of one kind are in the same of these expressions
-  pub same_kind : (es : List Expr) (x y : D) → kind es x ≡ kind es y → (e : Expr) → Member e es → s.has e x ≡ s.has e y
+  pub same_kind : (es : List Expr) (x y : D) → kind es x ≡ kind es y → (e : Expr) → OneOf e es → s.has e x ≡ s.has e y
   same_kind [] x y q e m = absurd m
   same_kind (d ∷ es) x y q e (inl i) =
       let p = next_same (s.has d x) (s.has d y) (kinds es) (kind es x) (kind es y) (kind_below es x) (kind_below es y) q in

@@ -2,7 +2,7 @@
 use Rattle.std.proofs.Common.{◌≡◌, ◌<◌, ◌==◌, ◌&&◌, ◌||◌, ℕ, Bool, true, false, not, cond, IsTrue, List, [], ◌∷◌, refl, sym, ap, subst, ◌∙◌, inl, inr, eqb-true, eq-eqb, arith}
 use Rattle.std.specs.List.{list_all, list_any, AllByRecursion}
 use Rattle.std.proofs.lemmas.Bool.{and_parts, and_from}
-use Rattle.cd_base.specs.Lists.{Member, collect}
+use Rattle.cd_base.specs.Lists.{OneOf, collect}
 use Rattle.cd_base.proofs.Members.{all_by_member, all_member, any_by_member, any_member, all_from_member, same_tests, member_collect, collect_member, cond_member, member_cond}
 use Rattle.cd_meaning.specs.declared.expression.Expr.{Expr}
 use Rattle.cd_meaning.specs.declared.expression.Expr.TheVariants.{Name, Meet, Join, Minus, SomeOf, AllOf}
@@ -51,7 +51,7 @@ module _ {D : Type 0} {s : Structure D} (w : World s) where
   pairs = collect pairs_of (numbers w.bound)
 
   -- what stands for i is in c: then the pair is listed
-  pair_listed : (c i : ℕ) → c < w.bound → i < size → s.has (Name c) (w.stands i) ≡ true → Member (pair c i) pairs
+  pair_listed : (c i : ℕ) → c < w.bound → i < size → s.has (Name c) (w.stands i) ≡ true → OneOf (pair c i) pairs
   pair_listed c i cl il e =
       member_collect pairs_of c (pair c i) (numbers w.bound) (below_member w.bound c cl)
       (member_collect (pairs_at c) i (pair c i) (numbers size) (below_member size i il)
@@ -63,14 +63,14 @@ module _ {D : Type 0} {s : Structure D} (w : World s) where
     pub inside : s.has (Name p.class) (w.stands p.element) ≡ true
 
   -- each listed pair says so
-  pub listed_pair : (p : Pair) → Member p pairs → IsPair p
+  pub listed_pair : (p : Pair) → OneOf p pairs → IsPair p
   listed_pair p m =
       let a = collect_member pairs_of p (numbers w.bound) m in
       let b = collect_member (pairs_at a.0) p (numbers size) a.2 in
       let c = cond_member (s.has (Name a.0) (w.stands b.0)) p (pair a.0 b.0 ∷ []) b.2 in
       only (pair a.0 b.0) c.1 (record { within = member_below size b.0 b.1; inside = c.0 })
     where
-      only : (q : Pair) → Member p (q ∷ []) → IsPair q → IsPair p
+      only : (q : Pair) → OneOf p (q ∷ []) → IsPair q → IsPair p
       only q (inl e) h = subst IsPair (sym e) h
       only q (inr m) h = absurd m
 
@@ -97,7 +97,7 @@ module _ {D : Type 0} {s : Structure D} (w : World s) where
   edges = collect edges_of (numbers w.bound)
 
   -- the test says so: then the edge is listed
-  edge_listed : (r i j : ℕ) → r < w.bound → i < size → j < size → w.test r i j ≡ true → Member (edge r i j) edges
+  edge_listed : (r i j : ℕ) → r < w.bound → i < size → j < size → w.test r i j ≡ true → OneOf (edge r i j) edges
   edge_listed r i j rl il jl t =
       member_collect edges_of r (edge r i j) (numbers w.bound) (below_member w.bound r rl)
       (member_collect (edges_from r) i (edge r i j) (numbers size) (below_member size i il)
@@ -112,7 +112,7 @@ module _ {D : Type 0} {s : Structure D} (w : World s) where
     pub tested : w.test e.role e.source e.target ≡ true
 
   -- each listed edge says so
-  pub listed_edge : (e : Edge) → Member e edges → IsEdge e
+  pub listed_edge : (e : Edge) → OneOf e edges → IsEdge e
   listed_edge e m =
       let a = collect_member edges_of e (numbers w.bound) m in
       let b = collect_member (edges_from a.0) e (numbers size) a.2 in
@@ -125,7 +125,7 @@ module _ {D : Type 0} {s : Structure D} (w : World s) where
         tested = d.0;
       })
     where
-      only : (q : Edge) → Member e (q ∷ []) → IsEdge q → IsEdge e
+      only : (q : Edge) → OneOf e (q ∷ []) → IsEdge q → IsEdge e
       only q (inl i) h = subst IsEdge (sym i) h
       only q (inr m) h = absurd m
 
@@ -156,11 +156,11 @@ module _ {D : Type 0} {s : Structure D} (w : World s) where
       subst (λ z. Goes z i j) q.2 (subst (λ z. Goes q.0.role z j) q.3 (subst (λ z. Goes q.0.role q.0.source z) q.4 l))
 
   -- an edge between elements of the domain is one of the interpretation
-  pub goes_edge : (r i j : ℕ) → r < w.bound → i < size → j < size → Goes r i j → Member (edge r i j) edges
+  pub goes_edge : (r i j : ℕ) → r < w.bound → i < size → j < size → Goes r i j → OneOf (edge r i j) edges
   goes_edge r i j rl il jl l = edge_listed r i j rl il jl ((w.linked r i j rl il jl).1 l)
 
   -- a listed edge of r goes between elements of the kinds of its ends
-  pub ends_of : (e : Edge) (r : ℕ) → Member e edges → e.role ≡ r → Goes r e.source e.target
+  pub ends_of : (e : Edge) (r : ℕ) → OneOf e edges → e.role ≡ r → Goes r e.source e.target
   ends_of e r m q = edge_goes r e.source e.target (edge_from finite e r e.source e.target m q refl refl)
 
   -- an edge between two elements goes between their kinds, the first of which has these elements
@@ -182,7 +182,7 @@ module _ {D : Type 0} {s : Structure D} (w : World s) where
   IsKept e = Agrees e × IsEven e
 
   -- so it is where the world tells the expression apart
-  told_even : (e : Expr) → Member e w.told → IsEven e
+  told_even : (e : Expr) → OneOf e w.told → IsEven e
   told_even e m x y q = same_kind s w.told x y q e m
 
   -- a kept expression has an element exactly where it has the number of its kind
@@ -194,7 +194,7 @@ module _ {D : Type 0} {s : Structure D} (w : World s) where
   is_pair c i p = p.class == c && p.element == i
 
   -- a named class is kept where the world has its number and tells it apart
-  pub name_kept : (c : ℕ) → c < w.bound → Member (Name c) w.told → IsKept (Name c)
+  pub name_kept : (c : ℕ) → c < w.bound → OneOf (Name c) w.told → IsKept (Name c)
   name_kept c cl m = (agrees, told_even (Name c) m)
     where
       there : (i : ℕ) → list_any (is_pair c i) pairs ≡ true → s.has (Name c) (w.stands i) ≡ true
@@ -240,7 +240,7 @@ module _ {D : Type 0} {s : Structure D} (w : World s) where
   )
 
   -- the edge that goes from a number, from its test
-  goes_from : (e : Edge) (r i : ℕ) → Member e edges → goes e r i ≡ true → Goes r i e.target
+  goes_from : (e : Edge) (r i : ℕ) → OneOf e edges → goes e r i ≡ true → Goes r i e.target
   goes_from e r i m t =
       let g = and_parts (e.role == r) (e.source == i) t in
       edge_goes r i e.target (edge_from finite e r i e.target m (eqb-true e.role r g.0) (eqb-true e.source i g.1) refl)
@@ -250,7 +250,7 @@ module _ {D : Type 0} {s : Structure D} (w : World s) where
   goes_itself r i j = and_from (r == r) (i == i) (eq-eqb r r refl) (eq-eqb i i refl)
 
   -- an existential is kept where its part is, and the world has its role and tells it apart
-  pub some_kept : (r : ℕ) (e : Expr) → r < w.bound → Member (SomeOf r e) w.told → IsKept e → IsKept (SomeOf r e)
+  pub some_kept : (r : ℕ) (e : Expr) → r < w.bound → OneOf (SomeOf r e) w.told → IsKept e → IsKept (SomeOf r e)
   some_kept r e rl m kept = (agrees, even)
     where
       even : IsEven (SomeOf r e)
@@ -278,7 +278,7 @@ module _ {D : Type 0} {s : Structure D} (w : World s) where
           ∙ same_tests (list_any (leads r i (member finite e)) edges) (s.has (SomeOf r e) (w.stands i)) (there i) (back i il)
 
   -- a universal is kept where its part is, and the world has its role and tells it apart
-  pub all_kept : (r : ℕ) (e : Expr) → r < w.bound → Member (AllOf r e) w.told → IsKept e → IsKept (AllOf r e)
+  pub all_kept : (r : ℕ) (e : Expr) → r < w.bound → OneOf (AllOf r e) w.told → IsKept e → IsKept (AllOf r e)
   all_kept r e rl m kept = (agrees, even)
     where
       even : IsEven (AllOf r e)

@@ -3,7 +3,7 @@
 use Rattle.std.proofs.Common.{◌≡◌, ◌<◌, ◌≤◌, ◌+◌, ℕ, suc, true, IsTrue, All, List, [], ◌∷◌, ◌++◌, refl, sym, subst, ◌∙◌, inl, inr, arith}
 use Rattle.std.specs.List.{AllByRecursion}
 use Rattle.std.proofs.lemmas.Bool.{false≢true}
-use Rattle.cd_base.specs.Lists.{Member, Within}
+use Rattle.cd_base.specs.Lists.{OneOf, Within}
 use Rattle.cd_base.proofs.Members.{all_of_member, all_from_member, true_or_false}
 use Rattle.cd_meaning.specs.declared.expression.Expr.{Expr}
 use Rattle.cd_meaning.specs.declared.expression.Expr.TheVariants.{Name, Meet, Join, Minus, SomeOf, AllOf}
@@ -38,7 +38,7 @@ module _ {D : Type 0} (s : Structure D) where
     apart_finite c d kc kd h differ i il m n = h differ (w.stands i) (sym (kc.0 i il) ∙ m) (sym (kd.0 i il) ∙ n)
 
     -- what holds of each listed edge of r
-    each_from : (r : ℕ) (P : Edge → Type 0) → ((e : Edge) → Member e (edges w) → e.role ≡ r → P e) → EachEdge (finite w) r P
+    each_from : (r : ℕ) (P : Edge → Type 0) → ((e : Edge) → OneOf e (edges w) → e.role ≡ r → P e) → EachEdge (finite w) r P
     each_from r P = all_from_member (λ (e : Edge). e.role ≡ r → P e) (edges w)
 
     -- a role that is below another over the domain is so there
@@ -67,7 +67,7 @@ module _ {D : Type 0} (s : Structure D) where
 
     -- each role of the list is below the bound
     abbrev HasAll : List ℕ → Type 0
-    HasAll l = (r : ℕ) → Member r l → r < w.bound
+    HasAll l = (r : ℕ) → OneOf r l → r < w.bound
 
     -- every two roles of a list that have the same edges over the domain have so there
     roles_all : (l : List ℕ) → HasAll l → EveryTwo (HasSameEdgesOver s) l → EveryTwo (HasSameEdges (finite w)) l
@@ -128,7 +128,7 @@ module _ {D : Type 0} (s : Structure D) where
   has_number n = record { need = []; least = suc n; gives = λ w t. let e = t.enough in omega arith }
 
   -- the expression is one of those that the world tells apart
-  tells : (e : Expr) → Needs (λ w. Member e w.told)
+  tells : (e : Expr) → Needs (λ w. OneOf e w.told)
   tells e = record { need = e ∷ []; least = 0; gives = λ w t. t.apart e (inl refl) }
 
   -- so do the numbers of a list
@@ -154,16 +154,16 @@ module _ {D : Type 0} (s : Structure D) where
       (both (λ w. IsKept w e) (λ w. AllKept w l) h.0 (ready_list l h.1))
 
   -- a form that a quantifier makes, from what it needs of its own and its part
-  ready_quantifier : (r : ℕ) (e d : Expr) → ((w : World s) → Has r w → Member d w.told → IsKept w e → IsKept w d) → Ready e → Ready d
+  ready_quantifier : (r : ℕ) (e d : Expr) → ((w : World s) → Has r w → OneOf d w.told → IsKept w e → IsKept w d) → Ready e → Ready d
   ready_quantifier r e d h ready_e =
-      follows (λ w. (Has r w × Member d w.told) × IsKept w e) (λ w. IsKept w d) (λ w k. h w k.0.0 k.0.1 k.1)
-      (both (λ w. Has r w × Member d w.told) (λ w. IsKept w e) (both (Has r) (λ w. Member d w.told) (has_number r) (tells d)) ready_e)
+      follows (λ w. (Has r w × OneOf d w.told) × IsKept w e) (λ w. IsKept w d) (λ w k. h w k.0.0 k.0.1 k.1)
+      (both (λ w. Has r w × OneOf d w.told) (λ w. IsKept w e) (both (Has r) (λ w. OneOf d w.told) (has_number r) (tells d)) ready_e)
 
   -- each expression is such
   ready : (e : Expr) → Ready e
   ready = induct Ready
-      (λ c. follows (λ w. Has c w × Member (Name c) w.told) (λ w. IsKept w (Name c)) (λ w k. name_kept w c k.0 k.1)
-      (both (Has c) (λ w. Member (Name c) w.told) (has_number c) (tells (Name c))))
+      (λ c. follows (λ w. Has c w × OneOf (Name c) w.told) (λ w. IsKept w (Name c)) (λ w k. name_kept w c k.0 k.1)
+      (both (Has c) (λ w. OneOf (Name c) w.told) (has_number c) (tells (Name c))))
       (λ l h. follows (λ w. AllKept w l) (λ w. IsKept w (Meet l)) (λ w. meet_kept w l) (ready_list l h))
       (λ l h. follows (λ w. AllKept w l) (λ w. IsKept w (Join l)) (λ w. join_kept w l) (ready_list l h))
       (λ e h. follows (λ w. IsKept w e) (λ w. IsKept w (Minus e)) (λ w. minus_kept w e) h)
@@ -200,7 +200,7 @@ module _ {D : Type 0} (s : Structure D) where
 
   -- each axiom of the list moves
   abbrev AllMove : List Axiom → World s → Type 0
-  AllMove l w = (a : Axiom) → Member a l → Moves a w
+  AllMove l w = (a : Axiom) → OneOf a l → Moves a w
 
   -- each list of axioms moves
   moves_all : (l : List Axiom) → Needs (AllMove l)
@@ -245,7 +245,7 @@ module _ {D : Type 0} (s : Structure D) where
         | inl t ↦ t
         | inr f ↦ absurd (world s n.least n.need (λ w is_bound is_told.
             let tells : Tells n.need n.least w = record {
-              apart = λ e m. subst (λ es. Member e es) (sym is_told) m;
+              apart = λ e m. subst (λ es. OneOf e es) (sym is_told) m;
               enough = omega (arith, is_bound);
             } in
             false≢true (sym f ∙ here axioms a b entails holds w (n.gives w tells) x isin)))

@@ -1,7 +1,7 @@
 -- A finite interpretation as a structure over its elements.
 use Rattle.std.proofs.Common.{◌≡◌, ◌<◌, ◌↔◌, ◌==◌, ◌&&◌, ℕ, true, IsTrue, refl, sym, subst, ◌∙◌, eq-eqb}
 use Rattle.std.proofs.lemmas.Bool.{and_parts, and_from, false≢true}
-use Rattle.cd_base.specs.Lists.{Member}
+use Rattle.cd_base.specs.Lists.{OneOf}
 use Rattle.cd_base.proofs.Members.{all_by_member, all_member, any_by_member, any_member, all_of_member, all_from_member}
 use Rattle.cd_meaning.specs.declared.expression.Expr.{Expr}
 use Rattle.cd_meaning.specs.declared.expression.Expr.TheVariants.{Name, Join, SomeOf, AllOf}
@@ -32,11 +32,11 @@ module _ (i : Interpretation) where
   -- ---- edges
 
   -- the source of an edge is an element
-  source_of : (e : Edge) → Member e i.roles → e.source < i.size
+  source_of : (e : Edge) → OneOf e i.roles → e.source < i.size
   source_of e m = all_of_member (λ (e : Edge). e.source < i.size) i.roles i.sources e m
 
   -- the target of an edge is an element
-  target_of : (e : Edge) → Member e i.roles → e.target < i.size
+  target_of : (e : Edge) → OneOf e i.roles → e.target < i.size
   target_of e m = all_of_member (λ (e : Edge). e.target < i.size) i.roles i.targets e m
 
   -- an edge of r from x passes the test for that
@@ -44,7 +44,7 @@ module _ (i : Interpretation) where
   goes_from e r x p q = and_from (e.role == r) (e.source == x) (eq-eqb e.role r p) (eq-eqb e.source x q)
 
   -- a listed edge of r from x joins x to its target
-  edge_at : (e : Edge) → Member e i.roles → (r x : ℕ) → goes e r x ≡ true → has_edge i r x e.target ≡ true
+  edge_at : (e : Edge) → OneOf e i.roles → (r x : ℕ) → goes e r x ≡ true → has_edge i r x e.target ≡ true
   edge_at e m r x g = any_by_member (λ (d : Edge). goes d r x && d.target == e.target) i.roles e m
       (and_from (goes e r x) (e.target == e.target) g (eq-eqb e.target e.target refl))
 

@@ -2,7 +2,7 @@
 use Rattle.std.proofs.Common.{◌≡◌, ◌<◌, ◌≤◌, ◌⊎◌, ◌&&◌, ◌||◌, ℕ, zero, suc, Bool, true, false, not, All, List, [], ◌∷◌, ◌++◌, refl, sym, ap, subst, ◌∙◌, inl, inr, arith}
 use Rattle.std.specs.List.{list_all, list_any, AllByRecursion}
 use Rattle.std.proofs.lemmas.Bool.{false≢true, cases_lt}
-use Rattle.cd_base.specs.Lists.{Member, Within}
+use Rattle.cd_base.specs.Lists.{OneOf, Within}
 use Rattle.cd_base.proofs.Members.{member_left, member_right, all_of_member, all_from_member}
 use Rattle.cd_meaning.specs.Truth.{EveryTwo}
 
@@ -25,12 +25,12 @@ numbers zero = []
 numbers (suc n) = n ∷ numbers n
 
 -- each number below n is one of them
-pub below_member : (n k : ℕ) → k < n → Member k (numbers n)
+pub below_member : (n k : ℕ) → k < n → OneOf k (numbers n)
 below_member zero k lt = absurd (omega arith)
 below_member (suc n) k lt = elim (cases_lt k n) [ inl l ↦ inr (below_member n k l) | inr g ↦ (let e : k ≡ n = omega arith in inl e) ]
 
 -- each of them is below n
-pub member_below : (n k : ℕ) → Member k (numbers n) → k < n
+pub member_below : (n k : ℕ) → OneOf k (numbers n) → k < n
 member_below zero k m = absurd m
 member_below (suc n) k (inl e) = omega (arith, e)
 member_below (suc n) k (inr m) = let l = member_below n k m in omega arith
@@ -38,29 +38,29 @@ member_below (suc n) k (inr m) = let l = member_below n k m in omega arith
 -- ---- lists
 
 -- what holds by recursion holds of each element
-pub in_list : {X : Type 0} (P : X → Type 0) (xs : List X) → AllByRecursion P xs → (x : X) → Member x xs → P x
+pub in_list : {X : Type 0} (P : X → Type 0) (xs : List X) → AllByRecursion P xs → (x : X) → OneOf x xs → P x
 in_list P [] h x m = absurd m
 in_list P (y ∷ xs) h x (inl e) = subst P (sym e) h.0
 in_list P (y ∷ xs) h x (inr m) = in_list P xs h.1 x m
 
 -- two tests that agree on each element agree on whether all pass
-pub all_same : {X : Type 0} (f g : X → Bool) (xs : List X) → ((x : X) → Member x xs → f x ≡ g x) → list_all f xs ≡ list_all g xs
+pub all_same : {X : Type 0} (f g : X → Bool) (xs : List X) → ((x : X) → OneOf x xs → f x ≡ g x) → list_all f xs ≡ list_all g xs
 all_same f g [] h = refl
 all_same f g (x ∷ xs) h =
     ap (λ b. b && list_all f xs) (h x (inl refl)) ∙ ap (λ b. g x && b) (all_same f g xs (λ y m. h y (inr m)))
 
 -- and on whether some passes
-pub any_same : {X : Type 0} (f g : X → Bool) (xs : List X) → ((x : X) → Member x xs → f x ≡ g x) → list_any f xs ≡ list_any g xs
+pub any_same : {X : Type 0} (f g : X → Bool) (xs : List X) → ((x : X) → OneOf x xs → f x ≡ g x) → list_any f xs ≡ list_any g xs
 any_same f g [] h = refl
 any_same f g (x ∷ xs) h =
     ap (λ b. b || list_any f xs) (h x (inl refl)) ∙ ap (λ b. g x || b) (any_same f g xs (λ y m. h y (inr m)))
 
 -- a relation holds of every two of a list where it holds of every two elements
-pub every_two : {X : Type 0} (R : X → X → Type 0) (l : List X) → ((c d : X) → Member c l → Member d l → R c d) → EveryTwo R l
+pub every_two : {X : Type 0} (R : X → X → Type 0) (l : List X) → ((c d : X) → OneOf c l → OneOf d l → R c d) → EveryTwo R l
 every_two R l h = all_from_member (λ c. All (λ d. R c d) l) l (λ c mc. all_from_member (λ d. R c d) l (λ d md. h c d mc md))
 
 -- and the other way: it holds of each two elements where it holds of every two of the list
-pub two_of : {X : Type 0} (R : X → X → Type 0) (l : List X) → EveryTwo R l → (c d : X) → Member c l → Member d l → R c d
+pub two_of : {X : Type 0} (R : X → X → Type 0) (l : List X) → EveryTwo R l → (c d : X) → OneOf c l → OneOf d l → R c d
 two_of R l h c d mc md = all_of_member (λ d. R c d) l (all_of_member (λ c. All (λ d. R c d) l) l h c mc) d md
 
 -- two relations that hold of the same pairs hold alike of every two of a list

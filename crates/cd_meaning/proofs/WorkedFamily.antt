@@ -2,7 +2,7 @@
 use Rattle.std.proofs.Common.{◌≡◌, ◌≢◌, ◌<◌, ◌↔◌, ◌==◌, ◌&&◌, ◌||◌, ℕ, zero, suc, Bool, true, false, not, cond, IsTrue, List, [], ◌∷◌, refl, sym, ap, ◌∙◌, inl, inr, subst, arith, eq-eqb, eqb-true}
 use Rattle.std.specs.List.{list_all, list_any}
 use Rattle.std.proofs.lemmas.Bool.{and_parts, and_from, false≢true}
-use Rattle.cd_base.specs.Lists.{Member}
+use Rattle.cd_base.specs.Lists.{OneOf}
 use Rattle.cd_base.proofs.Members.{all_member, all_by_member, all_of_member, all_from_member}
 use Rattle.cd_meaning.specs.declared.expression.Expr.{Expr}
 use Rattle.cd_meaning.specs.declared.expression.Expr.TheVariants.{Name, Meet, Join, Minus, SomeOf, AllOf}
@@ -158,7 +158,7 @@ refuted b same e p = false≢true (sym e ∙ same.1 p)
 pub of_two : {X : Type 0} (R : X → X → Type 0) (c d : X) → R c c → R c d → R d c → R d d → EveryTwo R (c ∷ d ∷ [])
 of_two {X = X} R c d first cd dc second = every_two R (c ∷ d ∷ []) step
   where
-    step : (x y : X) → Member x (c ∷ d ∷ []) → Member y (c ∷ d ∷ []) → R x y
+    step : (x y : X) → OneOf x (c ∷ d ∷ []) → OneOf y (c ∷ d ∷ []) → R x y
     step x y (inl p) (inl q) = subst (λ z. R z y) (sym p) (subst (R c) (sym q) first)
     step x y (inl p) (inr (inl q)) = subst (λ z. R z y) (sym p) (subst (R c) (sym q) cd)
     step x y (inr (inl p)) (inl q) = subst (λ z. R z y) (sym p) (subst (R d) (sym q) dc)

@@ -9,7 +9,7 @@ use Rattle.cd_meaning.specs.declared.expression.Expr.TheOpen.{Expr-F}
 use Rattle.cd_meaning.specs.declared.expression.Expr.TheViews.{roll-Expr}
 use Rattle.cd_meaning.specs.declared.expression.Expr.TheFolds.{fold-roll-Expr, map-Expr}
 use Rattle.cd_meaning.specs.Nodes.{nodes_of, nodes_by_parts}
-use Rattle.cd_meaning.specs.Numbered.{is_below, below_by_parts}
+use Rattle.cd_meaning.specs.Numbered.{is_in_range, below_by_parts}
 
 -- nodes
 nodes-roll : (e : Expr) (layer : Expr-F Expr) → roll-Expr layer ≡ e → nodes_of e ≡ nodes_by_parts (map-Expr Expr ℕ nodes_of layer)
@@ -35,23 +35,23 @@ nodes-AllOf r part = nodes-roll (AllOf r part) (Expr-F.AllOf r part) (rolls-AllO
 
 -- ranges
 module _ (classes roles : ℕ) where
-  below-roll : (e : Expr) (layer : Expr-F Expr) → roll-Expr layer ≡ e → is_below classes roles e ≡ below_by_parts classes roles (map-Expr Expr Bool (is_below classes roles) layer)
-  below-roll e layer rolls = ap (is_below classes roles) (sym rolls) ∙ fold-roll-Expr Bool (below_by_parts classes roles) layer
+  below-roll : (e : Expr) (layer : Expr-F Expr) → roll-Expr layer ≡ e → is_in_range classes roles e ≡ below_by_parts classes roles (map-Expr Expr Bool (is_in_range classes roles) layer)
+  below-roll e layer rolls = ap (is_in_range classes roles) (sym rolls) ∙ fold-roll-Expr Bool (below_by_parts classes roles) layer
 
-  pub below-Name : (c : ℕ) → is_below classes roles (Name c) ≡ nat_lt c classes
+  pub below-Name : (c : ℕ) → is_in_range classes roles (Name c) ≡ nat_lt c classes
   below-Name c = below-roll (Name c) (Expr-F.Name c) (rolls-Name c)
 
-  pub below-Meet : (parts : List Expr) → is_below classes roles (Meet parts) ≡ list_all (is_below classes roles) parts
-  below-Meet parts = below-roll (Meet parts) (Expr-F.Meet parts) (rolls-Meet parts) ∙ list_all-map (λ (part : Bool). part) (is_below classes roles) parts
+  pub below-Meet : (parts : List Expr) → is_in_range classes roles (Meet parts) ≡ list_all (is_in_range classes roles) parts
+  below-Meet parts = below-roll (Meet parts) (Expr-F.Meet parts) (rolls-Meet parts) ∙ list_all-map (λ (part : Bool). part) (is_in_range classes roles) parts
 
-  pub below-Join : (parts : List Expr) → is_below classes roles (Join parts) ≡ list_all (is_below classes roles) parts
-  below-Join parts = below-roll (Join parts) (Expr-F.Join parts) (rolls-Join parts) ∙ list_all-map (λ (part : Bool). part) (is_below classes roles) parts
+  pub below-Join : (parts : List Expr) → is_in_range classes roles (Join parts) ≡ list_all (is_in_range classes roles) parts
+  below-Join parts = below-roll (Join parts) (Expr-F.Join parts) (rolls-Join parts) ∙ list_all-map (λ (part : Bool). part) (is_in_range classes roles) parts
 
-  pub below-Minus : (part : Expr) → is_below classes roles (Minus part) ≡ is_below classes roles part
+  pub below-Minus : (part : Expr) → is_in_range classes roles (Minus part) ≡ is_in_range classes roles part
   below-Minus part = below-roll (Minus part) (Expr-F.Minus part) (rolls-Minus part)
 
-  pub below-SomeOf : (r : ℕ) (part : Expr) → is_below classes roles (SomeOf r part) ≡ (nat_lt r roles && is_below classes roles part)
+  pub below-SomeOf : (r : ℕ) (part : Expr) → is_in_range classes roles (SomeOf r part) ≡ (nat_lt r roles && is_in_range classes roles part)
   below-SomeOf r part = below-roll (SomeOf r part) (Expr-F.SomeOf r part) (rolls-SomeOf r part)
 
-  pub below-AllOf : (r : ℕ) (part : Expr) → is_below classes roles (AllOf r part) ≡ (nat_lt r roles && is_below classes roles part)
+  pub below-AllOf : (r : ℕ) (part : Expr) → is_in_range classes roles (AllOf r part) ≡ (nat_lt r roles && is_in_range classes roles part)
   below-AllOf r part = below-roll (AllOf r part) (Expr-F.AllOf r part) (rolls-AllOf r part)

@@ -7,7 +7,7 @@ use Rattle.cd_base.specs.declared.normal.Normal.{Normal}
 use Rattle.cd_base.specs.declared.normal.Conj.{Conj}
 use Rattle.cd_base.specs.declared.normal.Triple.{Triple}
 use Rattle.cd_base.specs.declared.normal.RolePair.{RolePair}
-use Rattle.cd_base.specs.Lists.{Member}
+use Rattle.cd_base.specs.Lists.{OneOf}
 
 -- one normal axiom, of one of the five forms
 pub data NormalAxiom : Type 0 where
@@ -24,11 +24,11 @@ pub data NormalAxiom : Type 0 where
 
 -- the axiom is one of these normal axioms
 abbrev pub HasNormal : Normal → NormalAxiom → Type 0
-HasNormal n (n1 c) = Member c n.n1
-HasNormal n (n2 t) = Member t n.n2
-HasNormal n (n3 t) = Member t n.n3
-HasNormal n (n4 t) = Member t n.n4
-HasNormal n (n5 p) = Member p n.n5
+HasNormal n (n1 c) = OneOf c n.n1
+HasNormal n (n2 t) = OneOf t n.n2
+HasNormal n (n3 t) = OneOf t n.n3
+HasNormal n (n4 t) = OneOf t n.n4
+HasNormal n (n5 p) = OneOf p n.n5
 
 -- the element is listed in the atom
 abbrev pub in_atom : Interpretation → ℕ → ℕ → Bool
@@ -44,7 +44,7 @@ HoldsNormal i (n5 p) = (x y : ℕ) → has_edge i p.lower x y ≡ true → has_e
 
 -- each of the axioms is true in the interpretation
 abbrev pub AllHold : Interpretation → List NormalAxiom → Type 0
-AllHold i axs = (a : NormalAxiom) → Member a axs → HoldsNormal i a
+AllHold i axs = (a : NormalAxiom) → OneOf a axs → HoldsNormal i a
 
 -- the interpretation is a model of these normal axioms
 abbrev pub IsNormalModel : Normal → Interpretation → Type 0

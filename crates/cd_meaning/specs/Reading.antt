@@ -6,13 +6,13 @@ use Rattle.cd_meaning.specs.Text.{equivalent_line, subclass_line}
 abbrev pub HasLine : List ℕ → List ℕ → Type 0
 HasLine bytes l = Contains (lines bytes) l
 
--- at a glance: a is owl:Nothing, or b is owl:Thing, or a line has a below b, or one line has both
+-- in one step: a is owl:Nothing, or b is owl:Thing, or a line has a below b, or one line has both
 abbrev pub Shows : List (List ℕ) → List ℕ → ℕ → ℕ → Type 0
 Shows names bytes a b =
     (a ≡ 1) ⊎ (b ≡ 0) ⊎ HasLine bytes (subclass_line names a b)
     ⊎ ((group : List ℕ) × HasLine bytes (equivalent_line names group) × Contains group a × Contains group b)
 
--- b is so many such glances from a
+-- b is so many such steps from a
 abbrev pub ShowsInSteps : List (List ℕ) → List ℕ → ℕ → ℕ → ℕ → Type 0
 ShowsInSteps names bytes a b zero = a ≡ b
 ShowsInSteps names bytes a b (suc n) = (c : ℕ) × (c < length names) × Shows names bytes a c × ShowsInSteps names bytes c b n

@@ -1,7 +1,7 @@
 -- The canonical interpretation, from what it lists.
 use Rattle.std.proofs.Common.{◌≡◌, ◌==◌, ◌&&◌, ℕ, ◌<◌, true, refl, subst, eqb-true, eq-eqb}
 use Rattle.std.proofs.lemmas.Bool.{and_parts, and_from}
-use Rattle.cd_base.specs.Lists.{Member}
+use Rattle.cd_base.specs.Lists.{OneOf}
 use Rattle.cd_base.specs.declared.normal.Normal.{Normal}
 use Rattle.cd_base.proofs.Members.{any_member, any_by_member, all_member, all_from_member}
 use Rattle.cd_meaning.specs.declared.interpretation.Edge.{Edge}
@@ -37,7 +37,7 @@ module _ (l : Listing) (r : InRange l) where
       let w = any_member (λ (m : Pair). m.class == a && m.element == x) l.members h in
       let p = and_parts (w.0.class == a) (w.0.element == x) w.2 in
       let e : w.0 ≡ record { class = a; element = x } = λ i. record { class = eqb-true w.0.class a p.0 i; element = eqb-true w.0.element x p.1 i } in
-      subst (λ z. Member z l.members) e w.1
+      subst (λ z. OneOf z l.members) e w.1
 
   pub goes_edge : (s x y : ℕ) → Goes l s x y → has_edge shown s x y ≡ true
   goes_edge s x y m = edge_from shown (record { role = s; source = x; target = y }) s x y m refl refl refl
@@ -46,7 +46,7 @@ module _ (l : Listing) (r : InRange l) where
   edge_goes s x y h =
       let w = edge_of shown s x y h in
       let e : w.0 ≡ record { role = s; source = x; target = y } = λ i. record { role = w.2 i; source = w.3 i; target = w.4 i } in
-      subst (λ z. Member z l.edges) e w.1
+      subst (λ z. OneOf z l.edges) e w.1
 
   pub shown_holds : (n : Normal) → Holds n l → IsNormalModel n shown
   shown_holds n h (n1 c) m = λ x lt t.

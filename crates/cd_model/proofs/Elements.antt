@@ -1,7 +1,7 @@
 -- The elements of the canonical interpretation, its atoms and its edges.
 use Rattle.std.proofs.Common.{◌≡◌, ℕ, zero, suc, ◌+◌, ◌<◌, ◌≤◌, Bool, true, false, cond, List, [], ◌∷◌, length, refl, sym, ◌∙◌, ap, subst, inl, inr, arith}
 use Rattle.std.proofs.lemmas.Bool.{cond_both, both_ways, cases_eq}
-use Rattle.cd_base.specs.Lists.{Member, collect}
+use Rattle.cd_base.specs.Lists.{OneOf, collect}
 use Rattle.cd_base.specs.declared.normal.Normal.{Normal}
 use Rattle.cd_base.proofs.Members.{member_collect, collect_member, cond_member, member_cond}
 use Rattle.cd_meaning.specs.declared.interpretation.Member.{Member as Pair}
@@ -14,12 +14,12 @@ use Rattle.cd_model.specs.Canonical.{Listing, chosen, has_empty, is_maximal, Ele
 use Rattle.cd_model.proofs.Listings.{Is, Goes}
 use Rattle.cd_model.proofs.Maximal.{Maximal, is_maximal-true, is_maximal-from}
 
-elements_good : (live : List ℕ → List (List Elem)) (from : ℕ) (keys : List (List ℕ)) (p : Element) → Member p (elements live from keys)
-    → Member p.key keys × (has_empty (live p.key) ≡ false) × (from ≤ p.number) × (p.number < from + length (elements live from keys))
+elements_good : (live : List ℕ → List (List Elem)) (from : ℕ) (keys : List (List ℕ)) (p : Element) → OneOf p (elements live from keys)
+    → OneOf p.key keys × (has_empty (live p.key) ≡ false) × (from ≤ p.number) × (p.number < from + length (elements live from keys))
 elements_good live from [] p m = absurd m
 elements_good live from (k ∷ ks) p m =
     cond_both (has_empty (live k)) (elements live from ks) (record { number = from; key = k } ∷ elements live (suc from) ks)
-    (λ l. Member p l → Member p.key (k ∷ ks) × (has_empty (live p.key) ≡ false) × (from ≤ p.number) × (p.number < from + length l))
+    (λ l. OneOf p l → OneOf p.key (k ∷ ks) × (has_empty (live p.key) ≡ false) × (from ≤ p.number) × (p.number < from + length l))
     (λ t n. let r = elements_good live from ks p n in (inr r.0, r.1, r.2, r.3))
     (λ t n. elim n [
       | inl q ↦ (let en : p.number ≡ from = ap (λ (w : Element). w.number) q in
@@ -29,12 +29,12 @@ elements_good live from (k ∷ ks) p m =
     ])
     m
 
-elements_find : (live : List ℕ → List (List Elem)) (from : ℕ) (keys : List (List ℕ)) (k : List ℕ) → Member k keys → has_empty (live k) ≡ false
-    → (p : Element) × Member p (elements live from keys) × (p.key ≡ k)
+elements_find : (live : List ℕ → List (List Elem)) (from : ℕ) (keys : List (List ℕ)) (k : List ℕ) → OneOf k keys → has_empty (live k) ≡ false
+    → (p : Element) × OneOf p (elements live from keys) × (p.key ≡ k)
 elements_find live from [] k m h = absurd m
 elements_find live from (j ∷ ks) k m h =
     cond_both (has_empty (live j)) (elements live from ks) (record { number = from; key = j } ∷ elements live (suc from) ks)
-    (λ l. (p : Element) × Member p l × (p.key ≡ k))
+    (λ l. (p : Element) × OneOf p l × (p.key ≡ k))
     (λ t. elim m [
       | inl q ↦ absurd (both_ways (has_empty (live j)) (subst (λ z. has_empty (live z) ≡ false) q h) t)
       | inr w ↦ elements_find live from ks k w h
@@ -44,11 +44,11 @@ elements_find live from (j ∷ ks) k m h =
       | inr w ↦ (let r = elements_find live (suc from) ks k w h in (r.0, inr r.1, r.2))
     ])
 
-elements_one : (live : List ℕ → List (List Elem)) (from : ℕ) (keys : List (List ℕ)) (p q : Element) → Member p (elements live from keys) → Member q (elements live from keys) → p.number ≡ q.number → p.key ≡ q.key
+elements_one : (live : List ℕ → List (List Elem)) (from : ℕ) (keys : List (List ℕ)) (p q : Element) → OneOf p (elements live from keys) → OneOf q (elements live from keys) → p.number ≡ q.number → p.key ≡ q.key
 elements_one live from [] p q m n e = absurd m
 elements_one live from (j ∷ ks) p q m n e =
     cond_both (has_empty (live j)) (elements live from ks) (record { number = from; key = j } ∷ elements live (suc from) ks)
-    (λ l. Member p l → Member q l → p.key ≡ q.key)
+    (λ l. OneOf p l → OneOf q l → p.key ≡ q.key)
     (λ t m n. elements_one live from ks p q m n e)
     (λ t m n. elim m [
       | inl a ↦ elim n [
@@ -63,11 +63,11 @@ elements_one live from (j ∷ ks) p q m n e =
     m n
 
 elements_all : (live : List ℕ → List (List Elem)) (from : ℕ) (keys : List (List ℕ)) (x : ℕ) → from ≤ x → x < from + length (elements live from keys)
-    → (p : Element) × Member p (elements live from keys) × (p.number ≡ x)
+    → (p : Element) × OneOf p (elements live from keys) × (p.number ≡ x)
 elements_all live from [] x g l = absurd (omega arith)
 elements_all live from (j ∷ ks) x g l =
     cond_both (has_empty (live j)) (elements live from ks) (record { number = from; key = j } ∷ elements live (suc from) ks)
-    (λ w. x < from + length w → (p : Element) × Member p w × (p.number ≡ x))
+    (λ w. x < from + length w → (p : Element) × OneOf p w × (p.number ≡ x))
     (λ t l. elements_all live from ks x g l)
     (λ t l. elim (cases_eq from x) [
       | inl e ↦ (record { number = from; key = j }, inl refl, e)
@@ -75,21 +75,21 @@ elements_all live from (j ∷ ks) x g l =
     ])
     l
 
-below_member : (r m : ℕ) → r < m → Member r (numbers_below m)
+below_member : (r m : ℕ) → r < m → OneOf r (numbers_below m)
 below_member r zero h = absurd (omega arith)
 below_member r (suc m) h = elim (cases_eq r m) [
   | inl e ↦ inl e
   | inr d ↦ inr (below_member r m (omega arith))
 ]
 
-member_atoms : (a x : ℕ) (es : List Elem) → Member (Plain a) es → Member (record { class = a; element = x }) (atoms_at x es)
+member_atoms : (a x : ℕ) (es : List Elem) → OneOf (Plain a) es → OneOf (record { class = a; element = x }) (atoms_at x es)
 member_atoms a x [] m = absurd m
 member_atoms a x (Plain b ∷ es) (inl q) = let e : a ≡ b = cc in inl (ap (λ z. let w : Pair = record { class = z; element = x } in w) e)
 member_atoms a x (Plain b ∷ es) (inr m) = inr (member_atoms a x es m)
 member_atoms a x (Exist r k ∷ es) (inl q) = let z : Plain a ≡ Exist r k = q in cc
 member_atoms a x (Exist r k ∷ es) (inr m) = member_atoms a x es m
 
-atoms_member : (a x y : ℕ) (es : List Elem) → Member (record { class = a; element = y }) (atoms_at x es) → Member (Plain a) es × (y ≡ x)
+atoms_member : (a x y : ℕ) (es : List Elem) → OneOf (record { class = a; element = y }) (atoms_at x es) → OneOf (Plain a) es × (y ≡ x)
 atoms_member a x y [] m = absurd m
 atoms_member a x y (Plain b ∷ es) (inl q) = (inl (ap (λ (w : Pair). Plain w.class) q), ap (λ (w : Pair). w.element) q)
 atoms_member a x y (Plain b ∷ es) (inr m) = let r = atoms_member a x y es m in (inr r.0, r.1)
@@ -98,14 +98,14 @@ atoms_member a x y (Exist r k ∷ es) m = let r = atoms_member a x y es m in (in
 module _ (n : Normal) (below : ℕ → ℕ → Bool) (keys : List (List ℕ)) (live : List ℕ → List (List Elem)) (least : ℕ) where
   -- x is the element of the key
   pub record At (x : ℕ) (k : List ℕ) : Type 0 where
-    pub known : Member k keys
+    pub known : OneOf k keys
     pub open_still : has_empty (live k) ≡ false
-    pub listed : Member (record { number = x; key = k }) (elements live 0 keys)
+    pub listed : OneOf (record { number = x; key = k }) (elements live 0 keys)
 
-  at_listed : (p : Element) → Member p (elements live 0 keys) → At p.number p.key
+  at_listed : (p : Element) → OneOf p (elements live 0 keys) → At p.number p.key
   at_listed p m = let r = elements_good live 0 keys p m in record { known = r.0; open_still = r.1; listed = m }
 
-  pub at_find : (k : List ℕ) → Member k keys → has_empty (live k) ≡ false → (x : ℕ) × At x k
+  pub at_find : (k : List ℕ) → OneOf k keys → has_empty (live k) ≡ false → (x : ℕ) × At x k
   at_find k m h = let r = elements_find live 0 keys k m h in (r.0.number, subst (At r.0.number) r.2 (at_listed r.0 r.1))
 
   pub at_one : (x : ℕ) (k l : List ℕ) → At x k → At x l → k ≡ l
@@ -125,11 +125,11 @@ module _ (n : Normal) (below : ℕ → ℕ → Bool) (keys : List (List ℕ)) (l
   unfolding canonical
   element_at x l = let r = elements_all live 0 keys x (omega arith) (omega arith) in (r.0.key, subst (λ z. At z r.0.key) r.2 (at_listed r.0 r.1))
 
-  pub is_from : (a x : ℕ) (k : List ℕ) → At x k → Member (Plain a) (Ch k) → Is Model a x
+  pub is_from : (a x : ℕ) (k : List ℕ) → At x k → OneOf (Plain a) (Ch k) → Is Model a x
   unfolding canonical
   is_from a x k p m = member_collect (λ (q : Element). atoms_at q.number (chosen n least (live q.key))) (record { number = x; key = k }) (record { class = a; element = x }) (elements live 0 keys) p.listed (member_atoms a x (Ch k) m)
 
-  pub is_at : (a x : ℕ) → Is Model a x → (k : List ℕ) × At x k × Member (Plain a) (Ch k)
+  pub is_at : (a x : ℕ) → Is Model a x → (k : List ℕ) × At x k × OneOf (Plain a) (Ch k)
   unfolding canonical
   is_at a x m =
       let r = collect_member (λ (q : Element). atoms_at q.number (chosen n least (live q.key))) (record { class = a; element = x }) (elements live 0 keys) m in
@@ -144,7 +144,7 @@ module _ (n : Normal) (below : ℕ → ℕ → Bool) (keys : List (List ℕ)) (l
     pub source : At x from
     pub target : At y to
     pub above : below lower r ≡ true
-    pub picked : Member (Exist lower to) (Ch from)
+    pub picked : OneOf (Exist lower to) (Ch from)
     pub maximal : Maximal lower to (Ch from)
 
   pub goes_from : (r x y : ℕ) → r < n.roles → Goal r x y → Goes Model r x y
@@ -160,8 +160,8 @@ module _ (n : Normal) (below : ℕ → ℕ → Bool) (keys : List (List ℕ)) (l
       (member_collect (λ (s : ℕ). cond (below g.lower s) (record { role = s; source = x; target = y } ∷ []) []) r e (numbers_below n.roles) (below_member r n.roles l)
       (member_cond (below g.lower r) e _ g.above (inl refl)))))))
 
-  edge_at : (r x y : ℕ) (p : Element) → Member p (elements live 0 keys) → (el : Elem) → Member el (Ch p.key)
-      → Member (record { role = r; source = x; target = y }) (edges_by below n.roles (elements live 0 keys) (Ch p.key) p.number el) → Goal r x y
+  edge_at : (r x y : ℕ) (p : Element) → OneOf p (elements live 0 keys) → (el : Elem) → OneOf el (Ch p.key)
+      → OneOf (record { role = r; source = x; target = y }) (edges_by below n.roles (elements live 0 keys) (Ch p.key) p.number el) → Goal r x y
   edge_at r x y p pm (Plain a) em m = absurd m
   edge_at r x y p pm (Exist s k) em m =
       let all : List Element = elements live 0 keys in

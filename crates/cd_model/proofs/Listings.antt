@@ -1,6 +1,6 @@
 -- Members and edges that are listed.
 use Rattle.std.proofs.Common.{◌≡◌, ℕ, ◌<◌, true, List, [], ◌∷◌}
-use Rattle.cd_base.specs.Lists.{Member}
+use Rattle.cd_base.specs.Lists.{OneOf}
 use Rattle.cd_base.specs.declared.normal.Normal.{Normal}
 use Rattle.cd_base.specs.declared.normal.Conj.{Conj}
 use Rattle.cd_base.specs.declared.normal.Triple.{Triple}
@@ -12,11 +12,11 @@ use Rattle.cd_model.specs.Canonical.{Listing, Open}
 
 -- x is listed in the atom
 abbrev pub Is : Listing → ℕ → ℕ → Type 0
-Is i a x = Member (record { class = a; element = x }) i.members
+Is i a x = OneOf (record { class = a; element = x }) i.members
 
 -- the edge is listed
 abbrev pub Goes : Listing → ℕ → ℕ → ℕ → Type 0
-Goes i r x y = Member (record { role = r; source = x; target = y }) i.edges
+Goes i r x y = OneOf (record { role = r; source = x; target = y }) i.edges
 
 -- there is an element, and all that are listed are below their number
 pub record InRange (i : Listing) : Type 0 where
@@ -27,11 +27,11 @@ pub record InRange (i : Listing) : Type 0 where
 
 -- the normal axioms are true of what is listed
 pub record Holds (n : Normal) (i : Listing) : Type 0 where
-  pub n1 : (c : Conj) → Member c n.n1 → (x : ℕ) → x < i.size → ((a : ℕ) → Member a c.left → Is i a x) → (b : ℕ) × Member b c.right × Is i b x
-  pub n2 : (t : Triple) → Member t n.n2 → (x : ℕ) → Is i t.atom x → (y : ℕ) × Goes i t.role x y × Is i t.other y
-  pub n3 : (t : Triple) → Member t n.n3 → (x y : ℕ) → Goes i t.role x y → Is i t.atom y → Is i t.other x
-  pub n4 : (t : Triple) → Member t n.n4 → (x y : ℕ) → Is i t.atom x → Goes i t.role x y → Is i t.other y
-  pub n5 : (p : RolePair) → Member p n.n5 → (x y : ℕ) → Goes i p.lower x y → Goes i p.higher x y
+  pub n1 : (c : Conj) → OneOf c n.n1 → (x : ℕ) → x < i.size → ((a : ℕ) → OneOf a c.left → Is i a x) → (b : ℕ) × OneOf b c.right × Is i b x
+  pub n2 : (t : Triple) → OneOf t n.n2 → (x : ℕ) → Is i t.atom x → (y : ℕ) × Goes i t.role x y × Is i t.other y
+  pub n3 : (t : Triple) → OneOf t n.n3 → (x y : ℕ) → Goes i t.role x y → Is i t.atom y → Is i t.other x
+  pub n4 : (t : Triple) → OneOf t n.n4 → (x y : ℕ) → Is i t.atom x → Goes i t.role x y → Is i t.other y
+  pub n5 : (p : RolePair) → OneOf p n.n5 → (x y : ℕ) → Goes i p.lower x y → Goes i p.higher x y
 
 -- what is listed is in range and a model, with an element for each {a} without the empty clause
 pub record IsListedCounter (n : Normal) (l : Listing) (keys : List (List ℕ)) (live : List ℕ → List (List Elem)) (b : ℕ) : Type 0 where

@@ -1,14 +1,14 @@
 -- Maximal supersets among the chosen keys of a role.
 use Rattle.std.proofs.Common.{◌≡◌, ℕ, ◌⊎◌, ◌&&◌, ◌||◌, not, true, cond, List, [], ◌∷◌, eqb, refl, sym, ap, subst, inl, inr, eqb-true, eq-eqb}
 use Rattle.std.proofs.lemmas.Bool.{cond_both, cases_Bool, both_ways, and_parts, and_from, or_cases, or_left, or_right, not-true, not_from_false, cases_eq, ne_eqb}
-use Rattle.cd_base.specs.Lists.{Member, Within}
+use Rattle.cd_base.specs.Lists.{OneOf, Within}
 use Rattle.cd_clause.specs.declared.elem.Elem.{Elem}
 use Rattle.cd_clause.specs.declared.elem.Elem.TheVariants.{Plain, Exist}
 use Rattle.cd_model.specs.Canonical.{is_within, is_maximal}
 use Rattle.cd_model.proofs.Numbers.{is_within-true, is_within-from}
 
 abbrev pub Maximal : ℕ → List ℕ → List Elem → Type 0
-Maximal r k es = (l : List ℕ) → Member (Exist r l) es → Within k l → Within l k
+Maximal r k es = (l : List ℕ) → OneOf (Exist r l) es → Within k l → Within l k
 
 pub is_maximal-true : (r : ℕ) (k : List ℕ) (es : List Elem) → is_maximal r k es ≡ true → Maximal r k es
 is_maximal-true r k [] h l m w = absurd m
@@ -58,12 +58,12 @@ climb_above r k (Exist s l ∷ es) =
     (λ t x m. climb_above r l es x (is_within-true k l (and_parts (eqb r s) (is_within k l) t).1 x m))
     (λ t. climb_above r k es)
 
-climb_member : (r : ℕ) (k : List ℕ) (es : List Elem) → (climb r k es ≡ k) ⊎ Member (Exist r (climb r k es)) es
+climb_member : (r : ℕ) (k : List ℕ) (es : List Elem) → (climb r k es ≡ k) ⊎ OneOf (Exist r (climb r k es)) es
 unfolding climb
 climb_member r k [] = inl refl
 climb_member r k (Plain a ∷ es) = elim (climb_member r k es) [ inl q ↦ inl q | inr m ↦ inr (inr m) ]
 climb_member r k (Exist s l ∷ es) =
-    cond_both (eqb r s && is_within k l) l k (λ j. (climb r j es ≡ k) ⊎ Member (Exist r (climb r j es)) (Exist s l ∷ es))
+    cond_both (eqb r s && is_within k l) l k (λ j. (climb r j es ≡ k) ⊎ OneOf (Exist r (climb r j es)) (Exist s l ∷ es))
     (λ t. elim (climb_member r l es) [
       | inl q ↦ inr (inl (let e : r ≡ s = eqb-true r s (and_parts (eqb r s) (is_within k l) t).0 in cc))
       | inr m ↦ inr (inr m)
@@ -86,10 +86,10 @@ climb_maximal r k (Exist s j ∷ es) l (inl q) w =
     (λ t u. absurd (both_ways (eqb r s && is_within k j) t (and_from (eqb r s) (is_within k j) (eq-eqb r s er) (is_within-from k j (λ x m. u x (climb_above r k es x m))))))
     (subst (Within (climb r (cond (eqb r s && is_within k j) j k) es)) el w))
 
-pub maximal_superset : (r : ℕ) (k : List ℕ) (es : List Elem) → Member (Exist r k) es → (l : List ℕ) × Member (Exist r l) es × Within k l × Maximal r l es
+pub maximal_superset : (r : ℕ) (k : List ℕ) (es : List Elem) → OneOf (Exist r k) es → (l : List ℕ) × OneOf (Exist r l) es × Within k l × Maximal r l es
 maximal_superset r k es m = (
   climb r k es,
-  elim (climb_member r k es) [ inl q ↦ subst (λ v. Member (Exist r v) es) (sym q) m | inr w ↦ w ],
+  elim (climb_member r k es) [ inl q ↦ subst (λ v. OneOf (Exist r v) es) (sym q) m | inr w ↦ w ],
   climb_above r k es,
   climb_maximal r k es,
 )

@@ -1,7 +1,7 @@
 -- The canonical interpretation is a model: what is chosen in saturated contexts obeys each rule, and so its elements and edges each axiom.
 -- And the whole of completeness.
 use Rattle.std.proofs.Common.{◌≡◌, ℕ, Bool, false, List, [], ◌∷◌, ◌++◌, map, refl, subst, inl, inr, arith}
-use Rattle.cd_base.specs.Lists.{Member, SameSet}
+use Rattle.cd_base.specs.Lists.{OneOf, SameSet}
 use Rattle.cd_base.specs.declared.normal.Normal.{Normal}
 use Rattle.cd_base.specs.declared.normal.Conj.{Conj}
 use Rattle.cd_base.specs.declared.normal.Triple.{Triple}
@@ -25,28 +25,28 @@ module _ (n : Normal) (keys : List (List ℕ)) (live : List ℕ → List (List E
   Ch k = chosen n least (live k)
 
   abbrev Rule : List ℕ → List Elem → Type 0
-  Rule h d = Concludes n h (λ c. Member c (live h)) (λ r k a. Member k keys × ((c : List Elem) × Member c (live k) × Eligible n (Plain a) c)) (λ r k. Member k keys × Member [] (live k)) d
+  Rule h d = Concludes n h (λ c. OneOf c (live h)) (λ r k a. OneOf k keys × ((c : List Elem) × OneOf c (live k) × Eligible n (Plain a) c)) (λ r k. OneOf k keys × OneOf [] (live k)) d
 
   -- each conclusion of a rule has an element that is chosen
-  rule_hits : (h : List ℕ) → Member h keys → has_empty (live h) ≡ false → (d : List Elem) → Rule h d → (e : Elem) × Member e d × Member e (Ch h)
+  rule_hits : (h : List ℕ) → OneOf h keys → has_empty (live h) ≡ false → (d : List Elem) → Rule h d → (e : Elem) × OneOf e d × OneOf e (Ch h)
   rule_hits h m o d r = hits_redundant n least (live h) o d (sat.closed h m d r)
 
-  module _ (h : List ℕ) (known : Member h keys) (o : has_empty (live h) ≡ false) where
+  module _ (h : List ℕ) (known : OneOf h keys) (o : has_empty (live h) ≡ false) where
     same_set : (d : List Elem) → SameSet d d
     same_set d = (λ x m. m, λ x m. m)
 
-    init_chosen : (a : ℕ) → Member (plain a) h → Member (Plain a) (Ch h)
+    init_chosen : (a : ℕ) → OneOf (plain a) h → OneOf (Plain a) (Ch h)
     init_chosen a m =
         let r = rule_hits h known o (Plain a ∷ []) (by_init a m (same_set (Plain a ∷ []))) in
-        elim r.1 [ inl q ↦ subst (λ z. Member z (Ch h)) q r.2 | inr z ↦ absurd z ]
+        elim r.1 [ inl q ↦ subst (λ z. OneOf z (Ch h)) q r.2 | inr z ↦ absurd z ]
 
-    neg_not : (a : ℕ) → Member (negated a) h → Member (Plain a) (Ch h) → ⊥
+    neg_not : (a : ℕ) → OneOf (negated a) h → OneOf (Plain a) (Ch h) → ⊥
     neg_not a m c =
         let w : Made n (Ch h) (live h) (Plain a) = made n least (live h) o (Plain a) c in
         let r = rule_hits h known o (rest (Plain a) w.clause) (by_neg a w.clause w.isin w.eligible m (same_set (rest (Plain a) w.clause))) in
         w.rest_not r.0 r.1 r.2
 
-    rests_for : (left : List ℕ) → ((a : ℕ) → Member a left → Member (Plain a) (Ch h)) → (m : List Elem) × Rests n (λ c. Member c (live h)) left m × ((f : Elem) → Member f m → Member f (Ch h) → ⊥)
+    rests_for : (left : List ℕ) → ((a : ℕ) → OneOf a left → OneOf (Plain a) (Ch h)) → (m : List Elem) × Rests n (λ c. OneOf c (live h)) left m × ((f : Elem) → OneOf f m → OneOf f (Ch h) → ⊥)
     rests_for [] t = ([], refl, λ f k. absurd k)
     rests_for (a ∷ left) t =
         let w : Made n (Ch h) (live h) (Plain a) = made n least (live h) o (Plain a) (t a (inl refl)) in
@@ -56,32 +56,32 @@ module _ (n : Normal) (keys : List (List ℕ)) (live : List ℕ → List (List E
           λ f k c. elim (member_cases f (rest (Plain a) w.clause) r.0 k) [ inl p ↦ w.rest_not f p c | inr q ↦ r.2 f q c ],
         )
 
-    con_chosen : (x : Conj) → Member x n.n1 → ((a : ℕ) → Member a x.left → Member (Plain a) (Ch h)) → (b : ℕ) × Member b x.right × Member (Plain b) (Ch h)
+    con_chosen : (x : Conj) → OneOf x n.n1 → ((a : ℕ) → OneOf a x.left → OneOf (Plain a) (Ch h)) → (b : ℕ) × OneOf b x.right × OneOf (Plain b) (Ch h)
     con_chosen x m t =
         let s = rests_for x.left t in
         let r = rule_hits h known o (s.0 ++ map Plain x.right) (by_con x s.0 m s.1 (same_set (s.0 ++ map Plain x.right))) in
         elim (member_cases r.0 s.0 (map Plain x.right) r.1) [
           | inl p ↦ absurd (s.2 r.0 p r.2)
-          | inr q ↦ (let b = map_member Plain r.0 x.right q in (b.0, b.1, subst (λ z. Member z (Ch h)) b.2 r.2))
+          | inr q ↦ (let b = map_member Plain r.0 x.right q in (b.0, b.1, subst (λ z. OneOf z (Ch h)) b.2 r.2))
         ]
 
-    reach : (r : ℕ) (k : List ℕ) → Member (Exist r k) (Ch h) → Member k keys × (has_empty (live k) ≡ false)
+    reach : (r : ℕ) (k : List ℕ) → OneOf (Exist r k) (Ch h) → OneOf k keys × (has_empty (live k) ≡ false)
     reach r k c =
         let w : Made n (Ch h) (live h) (Exist r k) = made n least (live h) o (Exist r k) c in
-        let known' : Member k keys = sat.reached h known w.clause w.isin r k w.eligible in (
+        let known' : OneOf k keys = sat.reached h known w.clause w.isin r k w.eligible in (
           known',
           empty_from_none (live k) (λ z.
               let s = rule_hits h known o (rest (Exist r k) w.clause) (by_dead w.clause r k w.isin w.eligible (known', z) (same_set (rest (Exist r k) w.clause))) in
               w.rest_not s.0 s.1 s.2),
         )
 
-    ex_chosen : (t : Triple) → Member t n.n2 → Member (Plain t.atom) (Ch h) → Member (Exist t.role (plain t.other ∷ [])) (Ch h)
+    ex_chosen : (t : Triple) → OneOf t n.n2 → OneOf (Plain t.atom) (Ch h) → OneOf (Exist t.role (plain t.other ∷ [])) (Ch h)
     ex_chosen t m c =
         let w : Made n (Ch h) (live h) (Plain t.atom) = made n least (live h) o (Plain t.atom) c in
         let r = rule_hits h known o (Exist t.role (plain t.other ∷ []) ∷ rest (Plain t.atom) w.clause) (by_ex t w.clause m w.isin w.eligible (same_set (Exist t.role (plain t.other ∷ []) ∷ rest (Plain t.atom) w.clause))) in
-        elim r.1 [ inl q ↦ subst (λ z. Member z (Ch h)) q r.2 | inr p ↦ absurd (w.rest_not r.0 p r.2) ]
+        elim r.1 [ inl q ↦ subst (λ z. OneOf z (Ch h)) q r.2 | inr p ↦ absurd (w.rest_not r.0 p r.2) ]
 
-    all_chosen : (t : Triple) → Member t n.n4 → (r : ℕ) (k : List ℕ) → Member (Exist r k) (Ch h) → Maximal r k (Ch h) → Under n.n5 r t.role → Member (Plain t.atom) (Ch h) → Member (plain t.other) k
+    all_chosen : (t : Triple) → OneOf t n.n4 → (r : ℕ) (k : List ℕ) → OneOf (Exist r k) (Ch h) → Maximal r k (Ch h) → Under n.n5 r t.role → OneOf (Plain t.atom) (Ch h) → OneOf (plain t.other) k
     all_chosen t m r k c max u a =
         let w : Made n (Ch h) (live h) (Exist r k) = made n least (live h) o (Exist r k) c in
         let v : Made n (Ch h) (live h) (Plain t.atom) = made n least (live h) o (Plain t.atom) a in
@@ -89,14 +89,14 @@ module _ (n : Normal) (keys : List (List ℕ)) (live : List ℕ → List (List E
         let d : List Elem = Exist r more ∷ (rest (Exist r k) w.clause ++ rest (Plain t.atom) v.clause) in
         let s = rule_hits h known o d (by_all t w.clause v.clause r k m w.isin w.eligible v.isin v.eligible u (same_set d)) in
         elim s.1 [
-          | inl q ↦ max more (subst (λ z. Member z (Ch h)) q s.2) (λ x j. key_with_old (plain t.other) x k j) (plain t.other) (key_with_new (plain t.other) k)
+          | inl q ↦ max more (subst (λ z. OneOf z (Ch h)) q s.2) (λ x j. key_with_old (plain t.other) x k j) (plain t.other) (key_with_new (plain t.other) k)
           | inr p ↦ elim (member_cases s.0 (rest (Exist r k) w.clause) (rest (Plain t.atom) v.clause) p) [
             | inl j ↦ absurd (w.rest_not s.0 j s.2)
             | inr j ↦ absurd (v.rest_not s.0 j s.2)
           ]
         ]
 
-  back_chosen : (h : List ℕ) → Member h keys → has_empty (live h) ≡ false → (t : Triple) → Member t n.n3 → (r : ℕ) (k : List ℕ) → Member (Exist r k) (Ch h) → Maximal r k (Ch h) → Under n.n5 r t.role → Member (Plain t.atom) (Ch k) → Member (Plain t.other) (Ch h)
+  back_chosen : (h : List ℕ) → OneOf h keys → has_empty (live h) ≡ false → (t : Triple) → OneOf t n.n3 → (r : ℕ) (k : List ℕ) → OneOf (Exist r k) (Ch h) → Maximal r k (Ch h) → Under n.n5 r t.role → OneOf (Plain t.atom) (Ch k) → OneOf (Plain t.other) (Ch h)
   back_chosen h known o t m r k c max u a =
       let w : Made n (Ch h) (live h) (Exist r k) = made n least (live h) o (Exist r k) c in
       let kn = reach h known o r k c in
@@ -105,9 +105,9 @@ module _ (n : Normal) (keys : List (List ℕ)) (live : List ℕ → List (List E
       let d : List Elem = Plain t.other ∷ Exist r more ∷ rest (Exist r k) w.clause in
       let s = rule_hits h known o d (by_back t w.clause r k m w.isin w.eligible (kn.0, (v.clause, v.isin, v.eligible)) u (λ x j. j, λ x j. j)) in
       elim s.1 [
-        | inl q ↦ subst (λ z. Member z (Ch h)) q s.2
+        | inl q ↦ subst (λ z. OneOf z (Ch h)) q s.2
         | inr p ↦ elim p [
-          | inl q ↦ absurd (neg_not k kn.0 kn.1 t.atom (max more (subst (λ z. Member z (Ch h)) q s.2) (λ x j. key_with_old (negated t.atom) x k j) (negated t.atom) (key_with_new (negated t.atom) k)) a)
+          | inl q ↦ absurd (neg_not k kn.0 kn.1 t.atom (max more (subst (λ z. OneOf z (Ch h)) q s.2) (λ x j. key_with_old (negated t.atom) x k j) (negated t.atom) (key_with_new (negated t.atom) k)) a)
           | inr j ↦ absurd (w.rest_not s.0 j s.2)
         ]
       ]
@@ -117,10 +117,10 @@ module _ (n : Normal) (below : ℕ → ℕ → Bool) (closure : IsClosure n belo
   M = canonical n below keys live least
 
   -- the key of an element in an atom, by the element's own key
-  is_chosen : (a x : ℕ) (k : List ℕ) → At n below keys live least x k → Is M a x → Member (Plain a) (chosen n least (live k))
+  is_chosen : (a x : ℕ) (k : List ℕ) → At n below keys live least x k → Is M a x → OneOf (Plain a) (chosen n least (live k))
   is_chosen a x k p i =
       let r = is_at n below keys live least a x i in
-      subst (λ z. Member (Plain a) (chosen n least (live z))) (at_one n below keys live least x r.0 k r.1 p) r.2
+      subst (λ z. OneOf (Plain a) (chosen n least (live z))) (at_one n below keys live least x r.0 k r.1 p) r.2
 
   model_holds : Holds n M
   model_holds = record {

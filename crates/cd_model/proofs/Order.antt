@@ -1,7 +1,7 @@
 -- The total order by which elements are chosen: it tells elements apart, and extends the order of the calculus.
 use Rattle.std.proofs.Common.{◌≡◌, ℕ, ◌⊎◌, Bool, true, false, cond, List, [], ◌∷◌, eqb, refl, sym, ◌∙◌, ap, subst, inl, inr, eqb-true}
 use Rattle.std.proofs.lemmas.Bool.{cond_both, cases_Bool, false≢true, eqb-false}
-use Rattle.cd_base.specs.Lists.{Member}
+use Rattle.cd_base.specs.Lists.{OneOf}
 use Rattle.cd_base.specs.declared.normal.Normal.{Normal}
 use Rattle.cd_base.specs.Keys.{is_named}
 use Rattle.cd_clause.specs.Dictionary.{is_at_most}
@@ -93,26 +93,26 @@ le_antisym n least e f p q = total_rank_apart n least e f (at_most_antisym (tota
 pub le_trans : (n : Normal) (least : ℕ) (e f g : Elem) → Le n least e f → Le n least f g → Le n least e g
 le_trans n least e f g p q = at_most_trans (total_rank n least e) (total_rank n least f) (total_rank n least g) p q
 
-insert_down_member : (n : Normal) (least : ℕ) (g e : Elem) (fs : List Elem) → Member g (insert_down n least e fs) → (g ≡ e) ⊎ Member g fs
+insert_down_member : (n : Normal) (least : ℕ) (g e : Elem) (fs : List Elem) → OneOf g (insert_down n least e fs) → (g ≡ e) ⊎ OneOf g fs
 insert_down_member n least g e [] m = m
 insert_down_member n least g e (f ∷ fs) m =
-    cond_both (is_at_most (total_rank n least f) (total_rank n least e)) (e ∷ f ∷ fs) (f ∷ insert_down n least e fs) (λ l. Member g l → (g ≡ e) ⊎ Member g (f ∷ fs))
+    cond_both (is_at_most (total_rank n least f) (total_rank n least e)) (e ∷ f ∷ fs) (f ∷ insert_down n least e fs) (λ l. OneOf g l → (g ≡ e) ⊎ OneOf g (f ∷ fs))
     (λ t k. k)
     (λ t k. elim k [ inl q ↦ inr (inl q) | inr j ↦ elim (insert_down_member n least g e fs j) [ inl q ↦ inl q | inr w ↦ inr (inr w) ] ])
     m
 
-member_insert_down : (n : Normal) (least : ℕ) (g e : Elem) (fs : List Elem) → (g ≡ e) ⊎ Member g fs → Member g (insert_down n least e fs)
+member_insert_down : (n : Normal) (least : ℕ) (g e : Elem) (fs : List Elem) → (g ≡ e) ⊎ OneOf g fs → OneOf g (insert_down n least e fs)
 member_insert_down n least g e [] m = m
 member_insert_down n least g e (f ∷ fs) m =
-    cond_both (is_at_most (total_rank n least f) (total_rank n least e)) (e ∷ f ∷ fs) (f ∷ insert_down n least e fs) (λ l. Member g l)
+    cond_both (is_at_most (total_rank n least f) (total_rank n least e)) (e ∷ f ∷ fs) (f ∷ insert_down n least e fs) (λ l. OneOf g l)
     (λ t. m)
     (λ t. elim m [ inl q ↦ inr (member_insert_down n least g e fs (inl q)) | inr k ↦ elim k [ inl q ↦ inl q | inr w ↦ inr (member_insert_down n least g e fs (inr w)) ] ])
 
-insert_down_first : (n : Normal) (least : ℕ) (e : Elem) (fs : List Elem) → ((g : Elem) → Member g fs → Le n least g (first fs)) → (g : Elem) → Member g (insert_down n least e fs) → Le n least g (first (insert_down n least e fs))
+insert_down_first : (n : Normal) (least : ℕ) (e : Elem) (fs : List Elem) → ((g : Elem) → OneOf g fs → Le n least g (first fs)) → (g : Elem) → OneOf g (insert_down n least e fs) → Le n least g (first (insert_down n least e fs))
 insert_down_first n least e [] h g (inl q) = subst (λ w. Le n least g w) q (at_most_refl (total_rank n least g))
 insert_down_first n least e [] h g (inr m) = absurd m
 insert_down_first n least e (f ∷ fs) h g m =
-    cond_both (is_at_most (total_rank n least f) (total_rank n least e)) (e ∷ f ∷ fs) (f ∷ insert_down n least e fs) (λ l. Member g l → Le n least g (first l))
+    cond_both (is_at_most (total_rank n least f) (total_rank n least e)) (e ∷ f ∷ fs) (f ∷ insert_down n least e fs) (λ l. OneOf g l → Le n least g (first l))
     (λ t k. elim k [
       | inl q ↦ subst (λ w. Le n least g w) q (at_most_refl (total_rank n least g))
       | inr j ↦ le_trans n least g f e (h g j) t
@@ -126,39 +126,39 @@ insert_down_first n least e (f ∷ fs) h g m =
     ])
     m
 
-pub member_descending : (n : Normal) (least : ℕ) (c : List Elem) (g : Elem) → Member g c → Member g (descending n least c)
+pub member_descending : (n : Normal) (least : ℕ) (c : List Elem) (g : Elem) → OneOf g c → OneOf g (descending n least c)
 member_descending n least [] g m = m
 member_descending n least (e ∷ es) g (inl q) = member_insert_down n least g e (descending n least es) (inl q)
 member_descending n least (e ∷ es) g (inr m) = member_insert_down n least g e (descending n least es) (inr (member_descending n least es g m))
 
-descending_member : (n : Normal) (least : ℕ) (c : List Elem) (g : Elem) → Member g (descending n least c) → Member g c
+descending_member : (n : Normal) (least : ℕ) (c : List Elem) (g : Elem) → OneOf g (descending n least c) → OneOf g c
 descending_member n least [] g m = m
 descending_member n least (e ∷ es) g m = elim (insert_down_member n least g e (descending n least es) m) [ inl q ↦ inl q | inr k ↦ inr (descending_member n least es g k) ]
 
-descending_first : (n : Normal) (least : ℕ) (c : List Elem) (g : Elem) → Member g (descending n least c) → Le n least g (greatest n least c)
+descending_first : (n : Normal) (least : ℕ) (c : List Elem) (g : Elem) → OneOf g (descending n least c) → Le n least g (greatest n least c)
 descending_first n least [] g m = absurd m
 descending_first n least (e ∷ es) g m = insert_down_first n least e (descending n least es) (descending_first n least es) g m
 
-first_member : (l : List Elem) (g : Elem) → Member g l → Member (first l) l
+first_member : (l : List Elem) (g : Elem) → OneOf g l → OneOf (first l) l
 first_member [] g m = absurd m
 first_member (e ∷ es) g m = inl refl
 
-pub greatest_member : (n : Normal) (least : ℕ) (c : List Elem) → (c ≡ [] → ⊥) → Member (greatest n least c) c
+pub greatest_member : (n : Normal) (least : ℕ) (c : List Elem) → (c ≡ [] → ⊥) → OneOf (greatest n least c) c
 greatest_member n least [] h = absurd (h refl)
 greatest_member n least (e ∷ es) h = descending_member n least (e ∷ es) (greatest n least (e ∷ es)) (first_member (descending n least (e ∷ es)) e (member_descending n least (e ∷ es) e (inl refl)))
 
-pub greatest_top : (n : Normal) (least : ℕ) (c : List Elem) (g : Elem) → Member g c → Le n least g (greatest n least c)
+pub greatest_top : (n : Normal) (least : ℕ) (c : List Elem) (g : Elem) → OneOf g c → Le n least g (greatest n least c)
 greatest_top n least c g m = descending_first n least c g (member_descending n least c g m)
 
 -- a clause before another one has no greater greatest element
-elems_before : (n : Normal) (least : ℕ) (c d : List Elem) (g h : Elem) → Member g c → Member h d → elems_at_most n least c d ≡ true → Le n least (first c) (first d)
+elems_before : (n : Normal) (least : ℕ) (c d : List Elem) (g h : Elem) → OneOf g c → OneOf h d → elems_at_most n least c d ≡ true → Le n least (first c) (first d)
 elems_before n least [] d g h m k t = absurd m
 elems_before n least (e ∷ es) [] g h m k t = absurd k
 elems_before n least (e ∷ es) (f ∷ fs) g h m k t =
     cond_both (is_at_most (total_rank n least e) (total_rank n least f)) (cond (is_at_most (total_rank n least f) (total_rank n least e)) (elems_at_most n least es fs) true) false (λ v. v ≡ true → Le n least e f)
     (λ u w. u) (λ u w. absurd (false≢true w)) t
 
-elems_after : (n : Normal) (least : ℕ) (c d : List Elem) (g h : Elem) → Member g c → Member h d → elems_at_most n least c d ≡ false → Le n least (first d) (first c)
+elems_after : (n : Normal) (least : ℕ) (c d : List Elem) (g h : Elem) → OneOf g c → OneOf h d → elems_at_most n least c d ≡ false → Le n least (first d) (first c)
 elems_after n least [] d g h m k t = absurd m
 elems_after n least (e ∷ es) [] g h m k t = absurd k
 elems_after n least (e ∷ es) (f ∷ fs) g h m k t =
@@ -166,7 +166,7 @@ elems_after n least (e ∷ es) (f ∷ fs) g h m k t =
     (λ u. cond_both (is_at_most (total_rank n least f) (total_rank n least e)) (elems_at_most n least es fs) true (λ v. v ≡ false → Le n least f e) (λ v w. v) (λ v w. absurd (false≢true (sym w))))
     (λ u w. at_most_other (total_rank n least e) (total_rank n least f) u) t
 
-some_member : (c : List Elem) → (c ≡ [] → ⊥) → (g : Elem) × Member g c
+some_member : (c : List Elem) → (c ≡ [] → ⊥) → (g : Elem) × OneOf g c
 some_member [] h = absurd (h refl)
 some_member (e ∷ es) h = (e, inl refl)
 

@@ -1,7 +1,7 @@
 -- What is derived is true.
 use Rattle.std.proofs.Common.{◌≡◌, true, ℕ, ◌<◌, ◌⊎◌, List, [], ◌∷◌, ◌++◌, map, refl, sym, ap, subst, inl, inr, arith}
 use Rattle.std.proofs.lemmas.Bool.{both_ways}
-use Rattle.cd_base.specs.Lists.{Member, Within}
+use Rattle.cd_base.specs.Lists.{OneOf, Within}
 use Rattle.cd_base.specs.Keys.{plain, negated, key_with}
 use Rattle.cd_base.specs.Normal.{Under, same, step}
 use Rattle.cd_base.specs.declared.normal.Normal.{Normal}
@@ -28,11 +28,11 @@ HasEdge i r x y = has_edge i r x y ≡ true
 
 -- What a model of the normal axioms gives, form by form.
 record Gives (n : Normal) (i : Interpretation) : Type 0 where
-  n1 : (c : Conj) → Member c n.n1 → (x : ℕ) → x < i.size → ((a : ℕ) → Member a c.left → IsIn i a x) → (b : ℕ) × Member b c.right × IsIn i b x
-  n2 : (t : Triple) → Member t n.n2 → (x : ℕ) → x < i.size → IsIn i t.atom x → (y : ℕ) × HasEdge i t.role x y × IsIn i t.other y
-  n3 : (t : Triple) → Member t n.n3 → (x y : ℕ) → HasEdge i t.role x y → IsIn i t.atom y → IsIn i t.other x
-  n4 : (t : Triple) → Member t n.n4 → (x y : ℕ) → IsIn i t.atom x → HasEdge i t.role x y → IsIn i t.other y
-  n5 : (p : RolePair) → Member p n.n5 → (x y : ℕ) → HasEdge i p.lower x y → HasEdge i p.higher x y
+  n1 : (c : Conj) → OneOf c n.n1 → (x : ℕ) → x < i.size → ((a : ℕ) → OneOf a c.left → IsIn i a x) → (b : ℕ) × OneOf b c.right × IsIn i b x
+  n2 : (t : Triple) → OneOf t n.n2 → (x : ℕ) → x < i.size → IsIn i t.atom x → (y : ℕ) × HasEdge i t.role x y × IsIn i t.other y
+  n3 : (t : Triple) → OneOf t n.n3 → (x y : ℕ) → HasEdge i t.role x y → IsIn i t.atom y → IsIn i t.other x
+  n4 : (t : Triple) → OneOf t n.n4 → (x y : ℕ) → IsIn i t.atom x → HasEdge i t.role x y → IsIn i t.other y
+  n5 : (p : RolePair) → OneOf p n.n5 → (x y : ℕ) → HasEdge i p.lower x y → HasEdge i p.higher x y
 
 gives : (n : Normal) (i : Interpretation) → IsNormalModel n i → Gives n i
 gives n i h = record {
@@ -60,7 +60,7 @@ module _ (n : Normal) (i : Interpretation) (holds : Gives n i) where
   wider x c d w t = (t.0, w t.0 t.1, t.2)
 
   -- the premises of Con
-  all_or_rest : (x : ℕ) (Has : List Elem → Type 0) → ((c : List Elem) → Has c → TrueClause i x c) → (left : List ℕ) (m : List Elem) → Rests n Has left m → ((a : ℕ) → Member a left → IsIn i a x) ⊎ TrueClause i x m
+  all_or_rest : (x : ℕ) (Has : List Elem → Type 0) → ((c : List Elem) → Has c → TrueClause i x c) → (left : List ℕ) (m : List Elem) → Rests n Has left m → ((a : ℕ) → OneOf a left → IsIn i a x) ⊎ TrueClause i x m
   all_or_rest x Has h [] m r = inl (λ a k. absurd k)
   all_or_rest x Has h (b ∷ left) m (c, had, top, r) =
       elim (split x (Plain b) c (h c had)) [

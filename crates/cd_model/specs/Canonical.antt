@@ -1,6 +1,6 @@
 -- The canonical interpretation of saturated contexts for a named atom, which is least.
 use Rattle.std.specs.Prelude.{◌≡◌, ℕ, zero, suc, ◌<◌, ◌&&◌, ◌||◌, not, Bool, true, false, cond, List, [], ◌∷◌, length, eqb}
-use Rattle.cd_base.specs.Lists.{Member, collect}
+use Rattle.cd_base.specs.Lists.{OneOf, collect}
 use Rattle.cd_base.specs.declared.normal.Normal.{Normal}
 use Rattle.cd_base.specs.declared.normal.Triple.{Triple}
 use Rattle.cd_base.specs.declared.normal.RolePair.{RolePair}
@@ -160,13 +160,13 @@ pub record IsClosure (n : Normal) (below : ℕ → ℕ → Bool) : Type 0 where
 
 -- the roles of N2 and N5 are below their number
 pub record RolesInRange (n : Normal) : Type 0 where
-  pub n2 : (t : Triple) → Member t n.n2 → t.role < n.roles
-  pub n5 : (p : RolePair) → Member p n.n5 → p.higher < n.roles
+  pub n2 : (t : Triple) → OneOf t n.n2 → t.role < n.roles
+  pub n5 : (p : RolePair) → OneOf p n.n5 → p.higher < n.roles
 
 -- {a} has a context without the empty clause
 pub record Open (keys : List (List ℕ)) (live : List ℕ → List (List Elem)) (a : ℕ) : Type 0 where
-  pub here : Member (plain a ∷ []) keys
-  pub open_still : Member [] (live (plain a ∷ [])) → ⊥
+  pub here : OneOf (plain a ∷ []) keys
+  pub open_still : OneOf [] (live (plain a ∷ [])) → ⊥
 
 -- the interpretation has these elements, members and edges
 pub record IsListed (i : Interpretation) (l : Listing) : Type 0 where

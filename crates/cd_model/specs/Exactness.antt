@@ -1,6 +1,6 @@
 -- What the context of a named atom says is exact.
 use Rattle.std.specs.Prelude.{◌≡◌, ℕ, ◌<◌, Bool, true, List, [], ◌∷◌}
-use Rattle.cd_base.specs.Lists.{Member}
+use Rattle.cd_base.specs.Lists.{OneOf}
 use Rattle.cd_base.specs.Keys.{plain, is_named}
 use Rattle.cd_base.specs.declared.normal.Normal.{Normal}
 use Rattle.cd_meaning.specs.declared.interpretation.Interpretation.{Interpretation}
@@ -22,12 +22,12 @@ AllIn n a b = (i : Interpretation) → IsNormalModel n i → (x : ℕ) → x < i
 -- the context of {a} has the empty clause exactly where a has no element in any model, and else the clause of a named b exactly where
 -- every element of a is in b in every model
 pub record Exact (n : Normal) (a : ℕ) (live : List (List Elem)) : Type 0 where
-  pub empty_none : Member [] live → NoneIn n a
-  pub none_empty : NoneIn n a → Member [] live
+  pub empty_none : OneOf [] live → NoneIn n a
+  pub none_empty : NoneIn n a → OneOf [] live
   pub single_all : (b : ℕ) → IsSingle live b → AllIn n a b
-  pub all_single : (Member [] live → ⊥) → (b : ℕ) → is_named n b ≡ true → AllIn n a b → IsSingle live b
+  pub all_single : (OneOf [] live → ⊥) → (b : ℕ) → is_named n b ≡ true → AllIn n a b → IsSingle live b
 
 -- the contexts of saturated keys whose live clauses are derived are exact
 abbrev pub Exactness : Type 0
 Exactness = (n : Normal) (below : ℕ → ℕ → Bool) → IsClosure n below → RolesInRange n → (keys : List (List ℕ)) (live : List ℕ → List (List Elem)) → Saturated n keys live
-    → ((h : List ℕ) → Member h keys → (c : List Elem) → Member c (live h) → Derived n h c) → (a : ℕ) → Member (plain a ∷ []) keys → Exact n a (live (plain a ∷ []))
+    → ((h : List ℕ) → OneOf h keys → (c : List Elem) → OneOf c (live h) → Derived n h c) → (a : ℕ) → OneOf (plain a ∷ []) keys → Exact n a (live (plain a ∷ []))

@@ -1,6 +1,6 @@
 -- Contexts in which nothing more can be concluded.
 use Rattle.std.specs.Prelude.{ℕ, List, []}
-use Rattle.cd_base.specs.Lists.{Member}
+use Rattle.cd_base.specs.Lists.{OneOf}
 use Rattle.cd_base.specs.declared.normal.Normal.{Normal}
 use Rattle.cd_clause.specs.declared.elem.Elem.{Elem}
 use Rattle.cd_clause.specs.declared.elem.Elem.TheVariants.{Plain, Exist}
@@ -10,5 +10,5 @@ use Rattle.cd_clause.specs.Derivations.{Redundant}
 
 -- the contexts of `keys`, where `live k` has the live clauses of the context of k
 pub record Saturated (n : Normal) (keys : List (List ℕ)) (live : List ℕ → List (List Elem)) : Type 0 where
-  pub closed : (h : List ℕ) → Member h keys → (d : List Elem) → Concludes n h (λ c. Member c (live h)) (λ r k a. Member k keys × ((c : List Elem) × Member c (live k) × Eligible n (Plain a) c)) (λ r k. Member k keys × Member [] (live k)) d → Redundant (live h) d
-  pub reached : (h : List ℕ) → Member h keys → (c : List Elem) → Member c (live h) → (r : ℕ) (k : List ℕ) → Eligible n (Exist r k) c → Member k keys
+  pub closed : (h : List ℕ) → OneOf h keys → (d : List Elem) → Concludes n h (λ c. OneOf c (live h)) (λ r k a. OneOf k keys × ((c : List Elem) × OneOf c (live k) × Eligible n (Plain a) c)) (λ r k. OneOf k keys × OneOf [] (live k)) d → Redundant (live h) d
+  pub reached : (h : List ℕ) → OneOf h keys → (c : List Elem) → OneOf c (live h) → (r : ℕ) (k : List ℕ) → Eligible n (Exist r k) c → OneOf k keys

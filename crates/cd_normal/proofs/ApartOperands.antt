@@ -1,15 +1,15 @@
 -- What the kept operands give.
 use Rattle.std.proofs.Common.{◌≡◌, ℕ, ◌+◌, ◌*◌, ◌<◌, ◌≤◌, ◌^◌, false, List, [], ◌∷◌, ◌++◌, map, length, sum_by, refl, sym, ap, subst, inl, inr, arith}
 use Rattle.std.proofs.lemmas.List.Sums.{sum_by-cons}
-use Rattle.cd_base.specs.Lists.{Member}
+use Rattle.cd_base.specs.Lists.{OneOf}
 use Rattle.cd_meaning.specs.declared.expression.Expr.{Expr}
 use Rattle.cd_meaning.specs.NormalAxioms.{NormalAxiom, implies}
 use Rattle.cd_meaning.specs.Nodes.{nodes_of}
 use Rattle.cd_nnf.specs.Nnf.{nnf}
 use Rattle.cd_meaning.specs.Induction.{induct}
 use Rattle.cd_normal.specs.declared.maker.Maker.{Maker}
-use Rattle.cd_normal.specs.Uses.{Label, UsesEach}
-use Rattle.cd_normal.specs.Method.{IsFresh, Kept, Chain, Apart, UsesApart, GivesApart}
+use Rattle.cd_normal.specs.Represents.{Label, RepresentsEach}
+use Rattle.cd_normal.specs.NormalForm.{IsFresh, Kept, Chain, Apart, RepresentsApart, GivesApart}
 use Rattle.cd_normal.specs.Made.{IsMentioned, IsUseEach, IsGiven, IsGrown, IsGrownBy}
 use Rattle.cd_normal.proofs.Making.{more_each, adds_both}
 use Rattle.cd_normal.proofs.Mentions.{mentioned_both}
@@ -18,30 +18,30 @@ use Rattle.cd_meaning.specs.NodesTable.{nodes-Name, nodes-Meet, nodes-Join, node
 -- ---- each atom is mentioned
 
 module _ (classes : ℕ) (Fresh : ℕ → Label → Type 0) (k : ℕ) where
-  chain_mentions : (before : List Expr) (p : ℕ) (es : List Expr) (xs : List ℕ) (axs : List NormalAxiom) → length es ≡ length xs → Chain classes Fresh k before p es xs axs → (a : ℕ) → Member a xs → IsMentioned a axs
+  chain_mentions : (before : List Expr) (p : ℕ) (es : List Expr) (xs : List ℕ) (axs : List NormalAxiom) → length es ≡ length xs → Chain classes Fresh k before p es xs axs → (a : ℕ) → OneOf a xs → IsMentioned a axs
   chain_mentions before p [] xs axs long c a m = absurd c
   chain_mentions before p (e ∷ []) [] axs long c a m = absurd c
-  chain_mentions before p (e ∷ []) (x ∷ []) axs long c a (inl is) = (implies (x ∷ p ∷ []) [], subst (Member (implies (x ∷ p ∷ []) [])) (sym c) (inl refl), inl (inl is))
+  chain_mentions before p (e ∷ []) (x ∷ []) axs long c a (inl is) = (implies (x ∷ p ∷ []) [], subst (OneOf (implies (x ∷ p ∷ []) [])) (sym c) (inl refl), inl (inl is))
   chain_mentions before p (e ∷ []) (x ∷ []) axs long c a (inr m) = absurd m
   chain_mentions before p (e ∷ []) (x ∷ y ∷ xs) axs long c a m = absurd (omega (arith, long))
   chain_mentions before p (e ∷ f ∷ es) [] axs long c a m = absurd c
-  chain_mentions before p (e ∷ f ∷ es) (x ∷ xs) axs long (q, more, fresh, c, is) a (inl same) = (implies (x ∷ []) (q ∷ []), subst (Member (implies (x ∷ []) (q ∷ []))) (sym is) (inl refl), inl (inl same))
+  chain_mentions before p (e ∷ f ∷ es) (x ∷ xs) axs long (q, more, fresh, c, is) a (inl same) = (implies (x ∷ []) (q ∷ []), subst (OneOf (implies (x ∷ []) (q ∷ []))) (sym is) (inl refl), inl (inl same))
   chain_mentions before p (e ∷ f ∷ es) (x ∷ xs) axs long (q, more, fresh, c, is) a (inr m) =
       let w = chain_mentions (e ∷ before) q (f ∷ es) xs more (omega (arith, long)) c a m in
-      (w.0, subst (Member w.0) (sym is) (inr (inr (inr w.1))), w.2)
+      (w.0, subst (OneOf w.0) (sym is) (inr (inr (inr w.1))), w.2)
 
-  apart_mentions : (es : List Expr) (xs : List ℕ) (axs : List NormalAxiom) → 2 ≤ length es → length es ≡ length xs → Apart classes Fresh k es xs axs → (a : ℕ) → Member a xs → IsMentioned a axs
+  apart_mentions : (es : List Expr) (xs : List ℕ) (axs : List NormalAxiom) → 2 ≤ length es → length es ≡ length xs → Apart classes Fresh k es xs axs → (a : ℕ) → OneOf a xs → IsMentioned a axs
   apart_mentions [] xs axs two long c a m = absurd (omega (arith, two))
   apart_mentions (e ∷ []) xs axs two long c a m = absurd (omega (arith, two))
-  apart_mentions (e ∷ f ∷ []) xs axs two long c a m = (implies xs [], subst (Member (implies xs [])) (sym c) (inl refl), inl m)
+  apart_mentions (e ∷ f ∷ []) xs axs two long c a m = (implies xs [], subst (OneOf (implies xs [])) (sym c) (inl refl), inl m)
   apart_mentions (e ∷ f ∷ g ∷ es) [] axs two long c a m = absurd c
-  apart_mentions (e ∷ f ∷ g ∷ es) (x ∷ xs) axs two long (p, more, fresh, c, is) a (inl same) = (implies (x ∷ []) (p ∷ []), subst (Member (implies (x ∷ []) (p ∷ []))) (sym is) (inl refl), inl (inl same))
+  apart_mentions (e ∷ f ∷ g ∷ es) (x ∷ xs) axs two long (p, more, fresh, c, is) a (inl same) = (implies (x ∷ []) (p ∷ []), subst (OneOf (implies (x ∷ []) (p ∷ []))) (sym is) (inl refl), inl (inl same))
   apart_mentions (e ∷ f ∷ g ∷ es) (x ∷ xs) axs two long (p, more, fresh, c, is) a (inr m) =
       let w = chain_mentions (e ∷ []) p (f ∷ g ∷ es) xs more (omega (arith, long)) c a m in
-      (w.0, subst (Member w.0) (sym is) (inr w.1), w.2)
+      (w.0, subst (OneOf w.0) (sym is) (inr w.1), w.2)
 
   -- two or more operands are used
-  uses_apart : (kept : List Expr) (xs : List ℕ) (a b : List NormalAxiom) → 2 ≤ length kept → UsesEach classes Fresh false (map nnf kept) xs a → Apart classes Fresh k kept xs b → UsesApart classes Fresh k kept (b ++ a)
+  uses_apart : (kept : List Expr) (xs : List ℕ) (a b : List NormalAxiom) → 2 ≤ length kept → RepresentsEach classes Fresh false (map nnf kept) xs a → Apart classes Fresh k kept xs b → RepresentsApart classes Fresh k kept (b ++ a)
   uses_apart [] xs a b two u c = absurd (omega (arith, two))
   uses_apart (e ∷ []) xs a b two u c = absurd (omega (arith, two))
   uses_apart (e ∷ f ∷ es) xs a b two u c = (xs, a, b, u, c, refl)

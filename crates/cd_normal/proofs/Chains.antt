@@ -1,12 +1,12 @@
 -- Unions of the first operands, one after the other.
 use Rattle.std.proofs.Common.{◌≡◌, ◌⊎◌, ◌↔◌, ℕ, suc, ◌+◌, ◌<◌, ◌≤◌, List, [], ◌∷◌, ◌++◌, length, get_or, drop, refl, sym, ap, subst, ◌∙◌, inl, inr, arith}
 use Rattle.std.proofs.lemmas.List.{drop_more, drop_all, length-drop, length_push}
-use Rattle.cd_base.specs.Lists.{Member}
+use Rattle.cd_base.specs.Lists.{OneOf}
 use Rattle.cd_meaning.specs.declared.expression.Expr.{Expr}
 use Rattle.cd_meaning.specs.NormalAxioms.{NormalAxiom, implies}
 use Rattle.cd_normal.specs.declared.maker.Maker.{Maker}
-use Rattle.cd_normal.specs.Uses.{Label, rest_of, chain_of}
-use Rattle.cd_normal.specs.Method.{IsFresh, Chain, Apart}
+use Rattle.cd_normal.specs.Represents.{Label, rest_of, chain_of}
+use Rattle.cd_normal.specs.NormalForm.{IsFresh, Chain, Apart}
 use Rattle.cd_normal.specs.Made.{IsPaired, Mentioned, Adds, Closes, MadeBy, IsGiven}
 use Rattle.cd_normal.proofs.Making.{fresh_more, fresh_end, paired_more, adds_then}
 use Rattle.cd_normal.proofs.Mentions.{mentioned_then}
@@ -20,7 +20,7 @@ union_rows x p q = implies (x ∷ []) (q ∷ []) ∷ implies (p ∷ []) (q ∷ [
 pub record Completed (classes k : ℕ) (labels : List Label) (es : List Expr) (xs : List ℕ) (axs more : List NormalAxiom) : Type 0 where
   pub whole : List NormalAxiom
   pub apart : Apart classes (IsFresh classes labels) k es xs whole
-  pub has : (a : NormalAxiom) → Member a whole ↔ (Member a axs ⊎ Member a more)
+  pub has : (a : NormalAxiom) → OneOf a whole ↔ (OneOf a axs ⊎ OneOf a more)
 
 -- an account goes on to one by which p is the union of the operands before, and what the rest gives from here completes what all give
 pub record Begun (classes k : ℕ) (old now : Maker) (labels : List Label) (es : List Expr) (xs : List ℕ) (before rest : List Expr) (p : ℕ) (others : List ℕ) : Type 0 where

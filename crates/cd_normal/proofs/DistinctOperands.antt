@@ -7,20 +7,20 @@ use Rattle.std.proofs.lemmas.List.{take_more, get_or_read, map_push}
 use Rattle.std.proofs.lemmas.List.Folds.{list_any-append}
 use Rattle.std.proofs.lemmas.Bool.{false≢true}
 use Rattle.std.proofs.Math.Bool.{or-false, or_comm}
-use Rattle.cd_base.specs.Lists.{Member}
+use Rattle.cd_base.specs.Lists.{OneOf}
 use Rattle.cd_meaning.specs.declared.expression.Expr.{Expr}
 use Rattle.cd_meaning.specs.declared.expression.Expr.TheVariants.{Name}
 use Rattle.cd_normal.specs.Codes.{code}
-use Rattle.cd_normal.specs.Method.{Kept}
+use Rattle.cd_normal.specs.NormalForm.{Kept}
 use Rattle.cd_normal.specs.Operands.{operand}
 use Rattle.cd_normal.proofs.Tests.{any_by_member, any_member}
 use Rattle.cd_normal.proofs.ToldApart.{told_apart}
 
 -- one more that came before
-kept_old : (seen l kept : List Expr) (e : Expr) → Kept seen l kept → Member e l ⊎ Member e seen → Kept seen (l ++ e ∷ []) kept
+kept_old : (seen l kept : List Expr) (e : Expr) → Kept seen l kept → OneOf e l ⊎ OneOf e seen → Kept seen (l ++ e ∷ []) kept
 kept_old seen [] kept e k (inl m) = absurd m
 kept_old seen [] kept e k (inr m) = inl (m, k)
-kept_old seen (d ∷ l) kept e (inl k) (inl (inl is)) = inl (k.0, kept_old seen l kept e k.1 (inr (subst (λ x. Member x seen) (sym is) k.0)))
+kept_old seen (d ∷ l) kept e (inl k) (inl (inl is)) = inl (k.0, kept_old seen l kept e k.1 (inr (subst (λ x. OneOf x seen) (sym is) k.0)))
 kept_old seen (d ∷ l) kept e (inl k) (inl (inr m)) = inl (k.0, kept_old seen l kept e k.1 (inl m))
 kept_old seen (d ∷ l) kept e (inl k) (inr m) = inl (k.0, kept_old seen l kept e k.1 (inr m))
 kept_old seen (d ∷ l) kept e (inr k) (inl (inl is)) = inr (k.0, (k.1.0, k.1.1, kept_old (d ∷ seen) l k.1.0 e k.1.2 (inr (inl is))))
@@ -28,7 +28,7 @@ kept_old seen (d ∷ l) kept e (inr k) (inl (inr m)) = inr (k.0, (k.1.0, k.1.1, 
 kept_old seen (d ∷ l) kept e (inr k) (inr m) = inr (k.0, (k.1.0, k.1.1, kept_old (d ∷ seen) l k.1.0 e k.1.2 (inr (inr m))))
 
 -- one more that is new
-kept_new : (seen l kept : List Expr) (e : Expr) → Kept seen l kept → (Member e l → ⊥) → (Member e seen → ⊥) → Kept seen (l ++ e ∷ []) (kept ++ e ∷ [])
+kept_new : (seen l kept : List Expr) (e : Expr) → Kept seen l kept → (OneOf e l → ⊥) → (OneOf e seen → ⊥) → Kept seen (l ++ e ∷ []) (kept ++ e ∷ [])
 kept_new seen [] kept e k n m = inr (m, ([], ap (λ t. t ++ e ∷ []) k, refl))
 kept_new seen (d ∷ l) kept e (inl k) n m = inl (k.0, kept_new seen l kept e k.1 (λ o. n (inr o)) m)
 kept_new seen (d ∷ l) kept e (inr k) n m = inr (k.0, (k.1.0 ++ e ∷ [], ap (λ t. t ++ e ∷ []) k.1.1, kept_new (d ∷ seen) l k.1.0 e k.1.2 (λ o. n (inr o)) (λ o. elim o [ inl is ↦ n (inl is) | inr s ↦ m s ])))
@@ -39,12 +39,12 @@ kept_new seen (d ∷ l) kept e (inr k) n m = inr (k.0, (k.1.0 ++ e ∷ [], ap (�
 abbrev pub is_coded : List Expr → List ℕ → Bool
 is_coded l c = list_any (λ e. bytes_eq (code e) c) l
 
-coded_member : (l : List Expr) (e : Expr) → is_coded l (code e) ≡ true → Member e l
+coded_member : (l : List Expr) (e : Expr) → is_coded l (code e) ≡ true → OneOf e l
 coded_member l e h =
     let w = any_member (λ d. bytes_eq (code d) (code e)) l h in
-    subst (λ d. Member d l) (told_apart w.0 e ((bytes_decides (code w.0) (code e)).0 w.2)) w.1
+    subst (λ d. OneOf d l) (told_apart w.0 e ((bytes_decides (code w.0) (code e)).0 w.2)) w.1
 
-member_coded : (l : List Expr) (e : Expr) → Member e l → is_coded l (code e) ≡ true
+member_coded : (l : List Expr) (e : Expr) → OneOf e l → is_coded l (code e) ≡ true
 member_coded l e m = any_by_member (λ d. bytes_eq (code d) (code e)) l e m ((bytes_decides (code e) (code e)).1 refl)
 
 -- the operand at i goes the list's way

@@ -6,10 +6,10 @@ use Rattle.cd_meaning.specs.declared.expression.Expr.TheVariants.{Name}
 use Rattle.cd_meaning.specs.declared.interpretation.Interpretation.{Interpretation}
 use Rattle.cd_meaning.specs.declared.interpretation.Member as listing
 use Rattle.cd_meaning.specs.Membership.{class_has, member}
-use Rattle.cd_base.specs.Lists.{Member, collect}
+use Rattle.cd_base.specs.Lists.{OneOf, collect}
 use Rattle.cd_meaning.specs.NormalAxioms.{in_atom}
-use Rattle.cd_normal.specs.Uses.{Label, use_of, rest_of, chain_of}
-use Rattle.cd_normal.specs.Method.{IsFresh}
+use Rattle.cd_normal.specs.Represents.{Label, use_of, rest_of, chain_of}
+use Rattle.cd_normal.specs.NormalForm.{IsFresh}
 use Rattle.cd_normal.proofs.Tests.{member_left, member_right, member_cases, all_from_member, any_by_member, any_member, true_or_false, same_tests}
 
 -- ---- listing what passes a test
@@ -18,37 +18,37 @@ abbrev pub upto : ℕ → List ℕ
 upto zero = []
 upto (suc n) = n ∷ upto n
 
-pub upto_has : (n a : ℕ) → a < n → Member a (upto n)
+pub upto_has : (n a : ℕ) → a < n → OneOf a (upto n)
 upto_has zero a l = absurd (omega arith)
 upto_has (suc n) a l = elim (true_or_false (a == n)) [ inl e ↦ inl (eqb-true a n e) | inr e ↦ inr (upto_has n a (below e)) ]
   where
     below : (a == n) ≡ false → a < n
     below e = grind (arith, e)
 
-pub upto_below : (n a : ℕ) → Member a (upto n) → a < n
+pub upto_below : (n a : ℕ) → OneOf a (upto n) → a < n
 upto_below zero a m = absurd m
 upto_below (suc n) a (inl e) = omega arith
 upto_below (suc n) a (inr m) = let l = upto_below n a m in omega arith
 
-pub member_collect : {X Y : Type 0} (f : X → List Y) (x : X) (y : Y) (xs : List X) → Member x xs → Member y (f x) → Member y (collect f xs)
+pub member_collect : {X Y : Type 0} (f : X → List Y) (x : X) (y : Y) (xs : List X) → OneOf x xs → OneOf y (f x) → OneOf y (collect f xs)
 member_collect f x y [] m h = absurd m
-member_collect f x y (z ∷ xs) (inl e) h = member_left y (f z) (collect f xs) (subst (λ w. Member y (f w)) e h)
+member_collect f x y (z ∷ xs) (inl e) h = member_left y (f z) (collect f xs) (subst (λ w. OneOf y (f w)) e h)
 member_collect f x y (z ∷ xs) (inr m) h = member_right y (f z) (collect f xs) (member_collect f x y xs m h)
 
-pub collect_member : {X Y : Type 0} (f : X → List Y) (y : Y) (xs : List X) → Member y (collect f xs) → (x : X) × Member x xs × Member y (f x)
+pub collect_member : {X Y : Type 0} (f : X → List Y) (y : Y) (xs : List X) → OneOf y (collect f xs) → (x : X) × OneOf x xs × OneOf y (f x)
 collect_member f y [] m = absurd m
 collect_member f y (z ∷ xs) m =
     elim (member_cases y (f z) (collect f xs) m) [ inl p ↦ (z, inl refl, p) | inr q ↦ (let r = collect_member f y xs q in (r.0, inr r.1, r.2)) ]
 
-cond_member : {X : Type 0} (b : Bool) (x : X) (xs : List X) → Member x (cond b xs []) → (b ≡ true) × Member x xs
+cond_member : {X : Type 0} (b : Bool) (x : X) (xs : List X) → OneOf x (cond b xs []) → (b ≡ true) × OneOf x xs
 cond_member true x xs m = (refl, m)
 cond_member false x xs m = absurd m
 
-member_cond : {X : Type 0} (b : Bool) (x : X) (xs : List X) → b ≡ true → Member x xs → Member x (cond b xs [])
-member_cond b x xs e m = subst (λ t. Member x (cond t xs [])) (sym e) m
+member_cond : {X : Type 0} (b : Bool) (x : X) (xs : List X) → b ≡ true → OneOf x xs → OneOf x (cond b xs [])
+member_cond b x xs e m = subst (λ t. OneOf x (cond t xs [])) (sym e) m
 
 abbrev pub Listed : Type 0
-Listed = listing.Member
+Listed = listing.OneOf
 
 abbrev pub entry : ℕ → ℕ → Listed
 entry a x = record { class = a; element = x }
@@ -60,11 +60,11 @@ module _ (size : ℕ) (test : ℕ → ℕ → Bool) where
   abbrev pub table : ℕ → List Listed
   table atoms = collect row (upto atoms)
 
-  pub table_from : (atoms a x : ℕ) → a < atoms → x < size → test a x ≡ true → Member (entry a x) (table atoms)
+  pub table_from : (atoms a x : ℕ) → a < atoms → x < size → test a x ≡ true → OneOf (entry a x) (table atoms)
   table_from atoms a x la lx h = member_collect row a (entry a x) (upto atoms) (upto_has atoms a la)
       (member_collect (λ x. cond (test a x) (entry a x ∷ []) []) x (entry a x) (upto size) (upto_has size x lx) (member_cond (test a x) (entry a x) (entry a x ∷ []) h (inl refl)))
 
-  pub table_has : (atoms : ℕ) (m : Listed) → Member m (table atoms) → (m.element < size) × (test m.class m.element ≡ true)
+  pub table_has : (atoms : ℕ) (m : Listed) → OneOf m (table atoms) → (m.element < size) × (test m.class m.element ≡ true)
   table_has atoms m k =
       let r = collect_member row m (upto atoms) k in
       let s = collect_member (λ x. cond (test r.0 x) (entry r.0 x ∷ []) []) m (upto size) r.2 in

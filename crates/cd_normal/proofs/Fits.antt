@@ -11,9 +11,9 @@ use Rattle.cd_meaning.specs.MembershipTable.{member-Name, member-Meet, member-Jo
 use Rattle.cd_nnf.specs.Nnf.{nnf_not}
 use Rattle.cd_nnf.proofs.Members.{nnf_not_other}
 use Rattle.cd_nnf.specs.NnfTable.{nnf_not-AllOf}
-use Rattle.cd_base.specs.Lists.{Member}
+use Rattle.cd_base.specs.Lists.{OneOf}
 use Rattle.cd_meaning.specs.NormalAxioms.{NormalAxiom, n2, n3, n4, implies, triple, in_atom, HoldsNormal, AllHold}
-use Rattle.cd_normal.specs.Uses.{Label, use_of, rest_of, Uses, UsesEach, by_name, pos_minus, pos_meet, pos_join, pos_some, pos_all, neg_minus, neg_meet, neg_join, neg_some, neg_all, at_end, and_then}
+use Rattle.cd_normal.specs.Represents.{Label, use_of, rest_of, Represents, RepresentsEach, by_name, pos_minus, pos_meet, pos_join, pos_some, pos_all, neg_minus, neg_meet, neg_join, neg_some, neg_all, at_end, and_then}
 use Rattle.cd_normal.proofs.Tests.{Paired, member_cases, map_member, all_member, any_by_member, true_or_false, not_true, source_within, target_within, some_edge, by_edge, at_edge}
 use Rattle.cd_normal.proofs.Extend.{kind_test}
 
@@ -67,7 +67,7 @@ module _ (i j : Interpretation) (size : j.size ≡ i.size) (roles : j.roles ≡ 
   pub none : AllHold j []
   none a m = absurd m
 
-  pub mapped : (f : ℕ → NormalAxiom) (ys : List ℕ) → ((y : ℕ) → Member y ys → HoldsNormal j (f y)) → AllHold j (map f ys)
+  pub mapped : (f : ℕ → NormalAxiom) (ys : List ℕ) → ((y : ℕ) → OneOf y ys → HoldsNormal j (f y)) → AllHold j (map f ys)
   mapped f ys h a m = let r = map_member f a ys m in subst (HoldsNormal j) (sym r.2) (h r.0 r.1)
 
   pub become : (axs bs : List NormalAxiom) → axs ≡ bs → AllHold j bs → AllHold j axs
@@ -91,7 +91,7 @@ module _ (i j : Interpretation) (size : j.size ≡ i.size) (roles : j.roles ≡ 
     pub name_same : (c : ℕ) → c < classes → Same (Name c) c
     name_same c below x l = names c x below l ∙ sym (member-Name i x c)
 
-    pub same : {sign : Bool} {e : Expr} {a : ℕ} {axs : List NormalAxiom} → Uses classes Fresh sign e a axs → Same e a
+    pub same : {sign : Bool} {e : Expr} {a : ℕ} {axs : List NormalAxiom} → Represents classes Fresh sign e a axs → Same e a
     same {sign} {e} {a} {axs} (by_name below is gives) = λ x l. name_same a below x l ∙ sym (at_e e (Name a) x is)
     same {sign} {e} {a} {axs} (pos_minus c below is fresh gives) = fresh_has a (use_of true e) fresh
     same {sign} {e} {a} {axs} (pos_meet parts ys more is fresh u gives) = fresh_has a (use_of true e) fresh
@@ -104,12 +104,12 @@ module _ (i j : Interpretation) (size : j.size ≡ i.size) (roles : j.roles ≡ 
     same {sign} {e} {a} {axs} (neg_some r part y more is fresh u gives) = fresh_has a (use_of false e) fresh
     same {sign} {e} {a} {axs} (neg_all r part y z more is fresh rest u gives) = fresh_has a (use_of false e) fresh
 
-    pub same_each : {sign : Bool} {es : List Expr} {xs : List ℕ} {axs : List NormalAxiom} → UsesEach classes Fresh sign es xs axs → Paired Same es xs
+    pub same_each : {sign : Bool} {es : List Expr} {xs : List ℕ} {axs : List NormalAxiom} → RepresentsEach classes Fresh sign es xs axs → Paired Same es xs
     same_each at_end = tt
     same_each (and_then here more u v) = (same u, same_each v)
 
     mutual
-      pub fits : {sign : Bool} {e : Expr} {a : ℕ} {axs : List NormalAxiom} → Uses classes Fresh sign e a axs → AllHold j axs
+      pub fits : {sign : Bool} {e : Expr} {a : ℕ} {axs : List NormalAxiom} → Represents classes Fresh sign e a axs → AllHold j axs
       fits {sign} {e} {a} {axs} (by_name below is gives) = become axs _ gives none
       fits {sign} {e} {a} {axs} (pos_minus c below is fresh gives) = become axs _ gives
           (add (implies (a ∷ c ∷ []) []) [] (clash_true a c (λ x l p q.
@@ -162,6 +162,6 @@ module _ (i j : Interpretation) (size : j.size ≡ i.size) (roles : j.roles ≡ 
           (w.0, edge_out r x w.0 w.1, same u w.0 (target_within i r x w.0 w.1) ∙ w.2))
           (fits u)))
 
-      pub fits_each : {sign : Bool} {es : List Expr} {xs : List ℕ} {axs : List NormalAxiom} → UsesEach classes Fresh sign es xs axs → AllHold j axs
+      pub fits_each : {sign : Bool} {es : List Expr} {xs : List ℕ} {axs : List NormalAxiom} → RepresentsEach classes Fresh sign es xs axs → AllHold j axs
       fits_each at_end = none
       fits_each (and_then here more u v) = join here more (fits u) (fits_each v)

@@ -13,17 +13,17 @@ use Rattle.cd_meaning.specs.Truth.{has_edge, Holds, IsBelow, AreDisjoint, IsSubR
 use Rattle.cd_meaning.specs.MembershipTable.{member-Join}
 use Rattle.cd_nnf.specs.Nnf.{nnf}
 use Rattle.cd_nnf.proofs.Members.{nnf_same}
-use Rattle.cd_base.specs.Lists.{Member}
+use Rattle.cd_base.specs.Lists.{OneOf}
 use Rattle.cd_meaning.specs.NormalAxioms.{NormalAxiom, n3, n4, n5, implies, triple, in_atom, HoldsNormal, AllHold}
-use Rattle.cd_normal.specs.Uses.{Label, chain_of, Uses, UsesEach}
-use Rattle.cd_normal.specs.Method.{circle_from, circle, Kept, Chain, UsesApart, GivesApart, Gives, GivesFrom, IsFresh, Extends}
+use Rattle.cd_normal.specs.Represents.{Label, chain_of, Represents, RepresentsEach}
+use Rattle.cd_normal.specs.NormalForm.{circle_from, circle, Kept, Chain, RepresentsApart, GivesApart, Gives, GivesFrom, IsFresh, Extends}
 use Rattle.cd_normal.proofs.Tests.{Paired, all_of_member, any_by_member, any_member, edge_of, source_within, target_within}
 use Rattle.cd_normal.proofs.Extend.{kind_test, extended, extended_names, extended_fresh}
 use Rattle.cd_normal.proofs.Fits.{Same, edge_in, edge_out, within, all_same, any_same, add, join, none, mapped, become, step_true, clash_true, one_all, one_any, same, same_each, fits, fits_each, name_same}
 
 -- a property of each link is one of each of the circle
 circle_from_all : {A : Type 0} (T : A → Type 0) (link : ℕ → ℕ → A) (x : ℕ) (xs ys : List ℕ) (start : ℕ) (P Q : ℕ → Type 0)
-    → ((x y : ℕ) → P x → Q y → T (link x y)) → P x → Q start → ((z : ℕ) → Member z xs → P z) → ((z : ℕ) → Member z ys → Q z) → (a : A) → Member a (circle_from link x xs ys start) → T a
+    → ((x y : ℕ) → P x → Q y → T (link x y)) → P x → Q start → ((z : ℕ) → OneOf z xs → P z) → ((z : ℕ) → OneOf z ys → Q z) → (a : A) → OneOf a (circle_from link x xs ys start) → T a
 circle_from_all T link x [] ys start P Q h p q ps qs a (inl is) = subst T (sym is) (h x start p q)
 circle_from_all T link x [] ys start P Q h p q ps qs a (inr m) = absurd m
 circle_from_all T link x (z ∷ xs) [] start P Q h p q ps qs a (inl is) = subst T (sym is) (h x start p q)
@@ -32,24 +32,24 @@ circle_from_all T link x (z ∷ xs) (y ∷ ys) start P Q h p q ps qs a (inl is) 
 circle_from_all T link x (z ∷ xs) (y ∷ ys) start P Q h p q ps qs a (inr m) = circle_from_all T link z xs ys start P Q h (ps z (inl refl)) q (λ w k. ps w (inr k)) (λ w k. qs w (inr k)) a m
 
 pub circle_all : {A : Type 0} (T : A → Type 0) (link : ℕ → ℕ → A) (xs ys : List ℕ) (P Q : ℕ → Type 0)
-    → ((x y : ℕ) → P x → Q y → T (link x y)) → ((z : ℕ) → Member z xs → P z) → ((z : ℕ) → Member z ys → Q z) → (a : A) → Member a (circle link xs ys) → T a
+    → ((x y : ℕ) → P x → Q y → T (link x y)) → ((z : ℕ) → OneOf z xs → P z) → ((z : ℕ) → OneOf z ys → Q z) → (a : A) → OneOf a (circle link xs ys) → T a
 circle_all T link [] ys P Q h ps qs a m = absurd m
 circle_all T link (x ∷ xs) [] P Q h ps qs a m = absurd m
 circle_all T link (x ∷ xs) (y ∷ ys) P Q h ps qs a m = circle_from_all T link x xs ys y P Q h (ps x (inl refl)) (qs y (inl refl)) (λ w k. ps w (inr k)) (λ w k. qs w (inr k)) a m
 
 -- what is kept is of the list, and not of those seen
-pub kept_in : (seen es kept : List Expr) → Kept seen es kept → (c : Expr) → Member c kept → Member c es × (Member c seen → ⊥)
-kept_in seen [] kept k c m = absurd (subst (Member c) k m)
+pub kept_in : (seen es kept : List Expr) → Kept seen es kept → (c : Expr) → OneOf c kept → OneOf c es × (OneOf c seen → ⊥)
+kept_in seen [] kept k c m = absurd (subst (OneOf c) k m)
 kept_in seen (e ∷ es) kept (inl k) c m = let r = kept_in seen es kept k.1 c m in (inr r.0, r.1)
-kept_in seen (e ∷ es) kept (inr k) c m = elim (subst (Member c) k.1.1 m) [
-  | inl is ↦ (inl is, λ s. k.0 (subst (λ d. Member d seen) is s))
+kept_in seen (e ∷ es) kept (inr k) c m = elim (subst (OneOf c) k.1.1 m) [
+  | inl is ↦ (inl is, λ s. k.0 (subst (λ d. OneOf d seen) is s))
   | inr n ↦ (let r = kept_in (e ∷ seen) es k.1.0 k.1.2 c n in (inr r.0, λ s. r.1 (inr s)))
 ]
 
 -- each holds with each later one
 abbrev Pairs : {X : Type 0} → (X → X → Type 0) → List X → Type 0
 Pairs R [] = Unit {0}
-Pairs R (x ∷ xs) = ((y : _) → Member y xs → R x y) × Pairs R xs
+Pairs R (x ∷ xs) = ((y : _) → OneOf y xs → R x y) × Pairs R xs
 
 kept_pairs : (seen es kept : List Expr) → Kept seen es kept → Pairs (λ c d. c ≢ d) kept
 kept_pairs seen [] kept k = subst (Pairs (λ c d. c ≢ d)) (sym k) tt
@@ -57,11 +57,11 @@ kept_pairs seen (e ∷ es) kept (inl k) = kept_pairs seen es kept k.1
 kept_pairs seen (e ∷ es) kept (inr k) = subst (Pairs (λ c d. c ≢ d)) (sym k.1.1)
     ((λ d m is. (kept_in (e ∷ seen) es k.1.0 k.1.2 d m).1 (inl (sym is))), kept_pairs (e ∷ seen) es k.1.0 k.1.2)
 
-pairs_map : {X : Type 0} (R S : X → X → Type 0) (xs : List X) → ((c d : X) → Member c xs → Member d xs → R c d → S c d) → Pairs R xs → Pairs S xs
+pairs_map : {X : Type 0} (R S : X → X → Type 0) (xs : List X) → ((c d : X) → OneOf c xs → OneOf d xs → R c d → S c d) → Pairs R xs → Pairs S xs
 pairs_map R S [] h p = tt
 pairs_map R S (x ∷ xs) h p = ((λ y m. h x y (inl refl) (inr m) (p.0 y m)), pairs_map R S xs (λ c d m n. h c d (inr m) (inr n)) p.1)
 
-two_at : {X : Type 0} (R : X → X → Type 0) (l : List X) → EveryTwo R l → (c d : X) → Member c l → Member d l → R c d
+two_at : {X : Type 0} (R : X → X → Type 0) (l : List X) → EveryTwo R l → (c d : X) → OneOf c l → OneOf d l → R c d
 two_at R l h c d m n = all_of_member (R c) l (all_of_member (λ c. All (λ d. R c d) l) l h c m) d n
 
 module _ (i j : Interpretation) (size : j.size ≡ i.size) (roles : j.roles ≡ i.roles) where
@@ -86,7 +86,7 @@ module _ (i j : Interpretation) (size : j.size ≡ i.size) (roles : j.roles ≡ 
   plain_each (e ∷ es) [] s = absurd s
   plain_each (e ∷ es) (x ∷ xs) s = (plain e x s.0, plain_each es xs s.1)
 
-  pick : (es : List Expr) (xs : List ℕ) → Paired Stands es xs → (x : ℕ) → Member x xs → (c : Expr) × Member c es × Stands c x
+  pick : (es : List Expr) (xs : List ℕ) → Paired Stands es xs → (x : ℕ) → OneOf x xs → (c : Expr) × OneOf c es × Stands c x
   pick [] [] s x m = absurd m
   pick [] (y ∷ xs) s x m = absurd s
   pick (e ∷ es) [] s x m = absurd s
@@ -99,28 +99,28 @@ module _ (i j : Interpretation) (size : j.size ≡ i.size) (roles : j.roles ≡ 
   module _ (classes : ℕ) (Fresh : ℕ → Label → Type 0)
       (names : (c x : ℕ) → c < classes → x < i.size → in_atom j c x ≡ class_has i c x)
       (fresh_has : (a : ℕ) (kind : Label) → Fresh a kind → (x : ℕ) → x < i.size → in_atom j a x ≡ kind_test i kind x) where
-    one : (sign : Bool) (e : Expr) (a : ℕ) (axs : List NormalAxiom) → Uses classes Fresh sign (nnf e) a axs → Stands e a
+    one : (sign : Bool) (e : Expr) (a : ℕ) (axs : List NormalAxiom) → Represents classes Fresh sign (nnf e) a axs → Stands e a
     one sign e a axs u = plain e a (same i j size roles classes Fresh names fresh_has u)
 
-    its : (sign : Bool) (e : Expr) (a : ℕ) (axs : List NormalAxiom) → Uses classes Fresh sign e a axs → AllHold j axs
+    its : (sign : Bool) (e : Expr) (a : ℕ) (axs : List NormalAxiom) → Represents classes Fresh sign e a axs → AllHold j axs
     its sign e a axs u = fits i j size roles classes Fresh names fresh_has u
 
-    list : (sign : Bool) (es : List Expr) (xs : List ℕ) (axs : List NormalAxiom) → UsesEach classes Fresh sign (map nnf es) xs axs → Paired Stands es xs
+    list : (sign : Bool) (es : List Expr) (xs : List ℕ) (axs : List NormalAxiom) → RepresentsEach classes Fresh sign (map nnf es) xs axs → Paired Stands es xs
     list sign es xs axs u = plain_each es xs (same_each i j size roles classes Fresh names fresh_has u)
 
-    theirs : (sign : Bool) (es : List Expr) (xs : List ℕ) (axs : List NormalAxiom) → UsesEach classes Fresh sign es xs axs → AllHold j axs
+    theirs : (sign : Bool) (es : List Expr) (xs : List ℕ) (axs : List NormalAxiom) → RepresentsEach classes Fresh sign es xs axs → AllHold j axs
     theirs sign es xs axs u = fits_each i j size roles classes Fresh names fresh_has u
 
     abbrev Union : List Expr → ℕ → Type 0
     Union before p = (x : ℕ) → x < i.size → in_atom j p x ≡ list_any (λ e. member i e x) before
 
-    union_apart : (before : List Expr) (p : ℕ) (e : Expr) (y : ℕ) → Union before p → Stands e y → ((b : Expr) → Member b before → AreDisjoint i b e) → HoldsNormal j (implies (y ∷ p ∷ []) [])
+    union_apart : (before : List Expr) (p : ℕ) (e : Expr) (y : ℕ) → Union before p → Stands e y → ((b : Expr) → OneOf b before → AreDisjoint i b e) → HoldsNormal j (implies (y ∷ p ∷ []) [])
     union_apart before p e y u s h = clash_true i j size roles y p (λ x l w v.
         let r = any_member (λ e. member i e x) before (sym (u x l) ∙ v) in
         h r.0 r.1 x l r.2 (sym (s x l) ∙ w))
 
     chain_true : (k : ℕ) (before : List Expr) (p : ℕ) (es : List Expr) (xs : List ℕ) (axs : List NormalAxiom) → Chain classes Fresh k before p es xs axs → Union before p → Paired Stands es xs
-        → Pairs (AreDisjoint i) es → ((b e : Expr) → Member b before → Member e es → AreDisjoint i b e) → AllHold j axs
+        → Pairs (AreDisjoint i) es → ((b e : Expr) → OneOf b before → OneOf e es → AreDisjoint i b e) → AllHold j axs
     chain_true k before p [] xs axs g u s pairs h = absurd g
     chain_true k before p (e ∷ []) [] axs g u s pairs h = absurd g
     chain_true k before p (e ∷ f ∷ es) [] axs g u s pairs h = absurd g
@@ -138,7 +138,7 @@ module _ (i j : Interpretation) (size : j.size ≡ i.size) (roles : j.roles ≡ 
         (chain_true k (e ∷ before) q (f ∷ es) ys more g next s.1 pairs.1
         (λ b d m n. elim m [ inl is ↦ subst (λ c. AreDisjoint i c d) (sym is) (pairs.0 d n) | inr w ↦ h b d w (inr n) ])))))
 
-    kept_true : (k : ℕ) (kept : List Expr) (axs : List NormalAxiom) → UsesApart classes Fresh k kept axs → Pairs (AreDisjoint i) kept → AllHold j axs
+    kept_true : (k : ℕ) (kept : List Expr) (axs : List NormalAxiom) → RepresentsApart classes Fresh k kept axs → Pairs (AreDisjoint i) kept → AllHold j axs
     kept_true k [] axs u pairs = become i j size roles axs _ u (none i j size roles)
     kept_true k (e ∷ []) axs u pairs = become i j size roles axs _ u (none i j size roles)
     kept_true k (e ∷ f ∷ []) axs (xs, a, b, u, g, gives) pairs =
@@ -171,7 +171,7 @@ module _ (i j : Interpretation) (size : j.size ≡ i.size) (roles : j.roles ≡ 
     gives_true some k (SameClasses l) axs (xs, ys, a, b, u, v, gives) h =
         let link : ℕ → ℕ → NormalAxiom = λ x y. implies (x ∷ []) (y ∷ []) in
         become i j size roles axs (circle link xs ys ++ (a ++ b)) gives (join i j size roles (circle link xs ys) (a ++ b)
-        (circle_all (HoldsNormal j) link xs ys (λ x. (c : Expr) × Member c l × Stands c x) (λ x. (c : Expr) × Member c l × Stands c x)
+        (circle_all (HoldsNormal j) link xs ys (λ x. (c : Expr) × OneOf c l × Stands c x) (λ x. (c : Expr) × OneOf c l × Stands c x)
         (λ x y p q. below_true p.0 q.0 x y p.2 q.2 (two_at (HasSameMembers i) l h p.0 q.0 p.1 q.1).0)
         (pick l xs (list false l xs a u)) (pick l ys (list true l ys b v)))
         (join i j size roles a b (theirs false (map nnf l) xs a u) (theirs true (map nnf l) ys b v)))
@@ -193,7 +193,7 @@ module _ (i j : Interpretation) (size : j.size ≡ i.size) (roles : j.roles ≡ 
     gives_true some k (SameRoles l) axs gives h =
         let link : ℕ → ℕ → NormalAxiom = λ r s. n5 (record { lower = r; higher = s }) in
         become i j size roles axs (circle link l l) gives
-        (circle_all (HoldsNormal j) link l l (λ r. Member r l) (λ r. Member r l) (λ r s m n. sub_role_true r s (two_at (HasSameEdges i) l h r s m n).0) (λ z m. m) (λ z m. m))
+        (circle_all (HoldsNormal j) link l l (λ r. OneOf r l) (λ r. OneOf r l) (λ r s m n. sub_role_true r s (two_at (HasSameEdges i) l h r s m n).0) (λ z m. m) (λ z m. m))
     gives_true some k (Domain r c) axs (x, a, u, gives) h = become i j size roles axs _ gives
         (add i j size roles (n3 (triple 0 r x)) a (λ y z edge p.
         let g = edge_in i j size roles r y z edge in

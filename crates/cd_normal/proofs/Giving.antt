@@ -2,26 +2,26 @@
 use Rattle.std.proofs.Common.{◌≡◌, ℕ, ◌<◌, true, false, List, [], ◌∷◌, ◌++◌, map, length, refl, sym, subst, ◌∙◌, inl, inr, arith}
 use Rattle.cd_meaning.specs.declared.expression.Expr.{Expr}
 use Rattle.cd_meaning.specs.declared.expression.Axiom.TheVariants.{SubClass, SameClasses, DisjointUnion}
-use Rattle.cd_base.specs.Lists.{Member}
+use Rattle.cd_base.specs.Lists.{OneOf}
 use Rattle.cd_nnf.specs.Nnf.{nnf}
 use Rattle.cd_normal.specs.declared.maker.Maker.{Maker}
 use Rattle.cd_meaning.specs.NormalAxioms.{NormalAxiom, implies}
-use Rattle.cd_normal.specs.Uses.{Uses}
-use Rattle.cd_normal.specs.Method.{IsFresh, Mentions, circle_from, circle, GivesApart}
+use Rattle.cd_normal.specs.Represents.{Represents}
+use Rattle.cd_normal.specs.NormalForm.{IsFresh, Mentions, circle_from, circle, GivesApart}
 use Rattle.cd_normal.specs.Made.{Adds, form, IsUse, IsUseEach, IsGiven, IsGivenBy, IsMentioned, atom_link, link_rows}
 use Rattle.cd_normal.proofs.Tests.{member_cases}
 use Rattle.cd_normal.proofs.Mentions.{Covers, mentioned_both, mentioned_then, mentioned_none, mention_right, covers_from_each}
 use Rattle.cd_normal.proofs.Making.{more, more_each, adds_both, adds_then}
 
 -- around a circle each atom is mentioned
-from_here : (a x : ℕ) (xs ys : List ℕ) (start : ℕ) → length xs ≡ length ys → Member a (x ∷ xs) → IsMentioned a (circle_from atom_link x xs ys start)
+from_here : (a x : ℕ) (xs ys : List ℕ) (start : ℕ) → length xs ≡ length ys → OneOf a (x ∷ xs) → IsMentioned a (circle_from atom_link x xs ys start)
 from_here a x [] ys start same (inl is) = (atom_link x start, inl refl, inl (inl is))
 from_here a x [] ys start same (inr m) = absurd m
 from_here a x (z ∷ xs) [] start same m = absurd (omega (arith, same))
 from_here a x (z ∷ xs) (y ∷ ys) start same (inl is) = (atom_link x y, inl refl, inl (inl is))
 from_here a x (z ∷ xs) (y ∷ ys) start same (inr m) = let w = from_here a z xs ys start (omega (arith, same)) m in (w.0, inr w.1, w.2)
 
-to_there : (a x : ℕ) (xs ys : List ℕ) (start : ℕ) → length xs ≡ length ys → Member a (start ∷ ys) → IsMentioned a (circle_from atom_link x xs ys start)
+to_there : (a x : ℕ) (xs ys : List ℕ) (start : ℕ) → length xs ≡ length ys → OneOf a (start ∷ ys) → IsMentioned a (circle_from atom_link x xs ys start)
 to_there a x [] [] start same (inl is) = (atom_link x start, inl refl, inr (inl is))
 to_there a x [] [] start same (inr m) = absurd m
 to_there a x [] (y ∷ ys) start same m = absurd (omega (arith, same))
@@ -53,7 +53,7 @@ covers_union c xs ys a m = elim (member_cases a xs (ys ++ []) m) [
 module _ (classes : ℕ) where
   -- one use, and one axiom that mentions its atom
   pub given_one : (old mid new : Maker) (c : Expr) (row : ℕ → NormalAxiom) (x : ℕ) → IsUse classes old mid true (form false c) x → new.next ≡ mid.next → Adds mid new (row x ∷ []) → Mentions x (row x)
-      → IsGiven classes old new (λ F axs. (y : ℕ) × (a : List NormalAxiom) × Uses classes F true (nnf c) y a × (axs ≡ row y ∷ a))
+      → IsGiven classes old new (λ F axs. (y : ℕ) × (a : List NormalAxiom) × Represents classes F true (nnf c) y a × (axs ≡ row y ∷ a))
   given_one old mid new c row x first next adds told = λ labels count.
       let m = first labels count in
       record {

@@ -8,8 +8,8 @@ use Rattle.cd_meaning.specs.declared.expression.Axiom.TheVariants.{SubClass, Sam
 use Rattle.cd_meaning.specs.Nodes.{nodes, nodes_in}
 use Rattle.cd_meaning.specs.NormalAxioms.{NormalAxiom}
 use Rattle.cd_normal.specs.declared.maker.Maker.{Maker}
-use Rattle.cd_normal.specs.Uses.{Label, chain_of}
-use Rattle.cd_normal.specs.Method.{IsFresh, Chain, Apart, UsesApart, GivesApart, Gives, GivesFrom}
+use Rattle.cd_normal.specs.Represents.{Label, chain_of}
+use Rattle.cd_normal.specs.NormalForm.{IsFresh, Chain, Apart, RepresentsApart, GivesApart, Gives, GivesFrom}
 use Rattle.cd_normal.specs.Made.{role_operands, IsGiven, IsGivenBy, IsGrown, IsGrownOnce}
 use Rattle.cd_normal.proofs.Mentions.{mentioned_then, mentioned_none}
 use Rattle.cd_normal.proofs.Making.{more, more_each, adds_then, adds_none, app_assoc}
@@ -28,7 +28,7 @@ module _ (classes : ℕ) (F G : ℕ → Label → Type 0) (up : (a : ℕ) (k : L
   apart_more k (e ∷ f ∷ g ∷ es) [] axs h = absurd h
   apart_more k (e ∷ f ∷ g ∷ es) (x ∷ xs) axs (p, rest, fresh, chain, is) = (p, rest, up p (chain_of k (e ∷ [])) fresh, chain_more k (e ∷ []) p (f ∷ g ∷ es) xs rest chain, is)
 
-  uses_apart_more : (k : ℕ) (es : List Expr) (axs : List NormalAxiom) → UsesApart classes F k es axs → UsesApart classes G k es axs
+  uses_apart_more : (k : ℕ) (es : List Expr) (axs : List NormalAxiom) → RepresentsApart classes F k es axs → RepresentsApart classes G k es axs
   uses_apart_more k [] axs h = h
   uses_apart_more k (e ∷ []) axs h = h
   uses_apart_more k (e ∷ f ∷ es) axs (xs, a, b, u, h, is) = (xs, a, b, more_each classes F G up u, apart_more k (e ∷ f ∷ es) xs b h, is)

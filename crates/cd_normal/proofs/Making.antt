@@ -6,8 +6,8 @@ use Rattle.cd_nnf.specs.Nnf.{nnf, nnf_not}
 use Rattle.cd_nnf.specs.NnfTable.{nnf-Name, nnf-Minus, nnf-SomeOf, nnf-Meet, nnf-Join, nnf_not-Meet, nnf_not-Join, nnf_not-Name, nnf_not-Minus, nnf_not-AllOf}
 use Rattle.cd_normal.specs.declared.maker.Maker.{Maker}
 use Rattle.cd_meaning.specs.NormalAxioms.{NormalAxiom, n4, implies, triple}
-use Rattle.cd_normal.specs.Uses.{Label, use_of, rest_of, chain_of, Uses, UsesEach, by_name, pos_minus, pos_meet, pos_join, pos_some, pos_all, neg_minus, neg_meet, neg_join, neg_some, neg_all, at_end, and_then}
-use Rattle.cd_normal.specs.Method.{IsFresh}
+use Rattle.cd_normal.specs.Represents.{Label, use_of, rest_of, chain_of, Represents, RepresentsEach, by_name, pos_minus, pos_meet, pos_join, pos_some, pos_all, neg_minus, neg_meet, neg_join, neg_some, neg_all, at_end, and_then}
+use Rattle.cd_normal.specs.NormalForm.{IsFresh}
 use Rattle.cd_normal.specs.Made.{IsPaired, Adds, Closes, form, IsUse, IsUseEach, minus_rows, some_rows, list_rows, link_rows, ClosesTwo, rest_rows}
 use Rattle.cd_nnf.proofs.Complements.{twice}
 use Rattle.std.proofs.lemmas.Bool.{cases_lt}
@@ -17,7 +17,7 @@ use Rattle.cd_normal.proofs.Mentions.{mentioned_both, mentioned_then, mentioned_
 
 module _ (classes : ℕ) (F G : ℕ → Label → Type 0) (up : (a : ℕ) (k : Label) → F a k → G a k) where
   mutual
-    pub more : {sign : Bool} {e : Expr} {a : ℕ} {axs : List NormalAxiom} → Uses classes F sign e a axs → Uses classes G sign e a axs
+    pub more : {sign : Bool} {e : Expr} {a : ℕ} {axs : List NormalAxiom} → Represents classes F sign e a axs → Represents classes G sign e a axs
     more {sign} {e} {a} {axs} (by_name below is gives) = by_name below is gives
     more {sign} {e} {a} {axs} (pos_minus c below is fresh gives) = pos_minus c below is (up a (use_of true e) fresh) gives
     more {sign} {e} {a} {axs} (pos_meet parts ys rest is fresh u gives) = pos_meet parts ys rest is (up a (use_of true e) fresh) (more_each u) gives
@@ -30,7 +30,7 @@ module _ (classes : ℕ) (F G : ℕ → Label → Type 0) (up : (a : ℕ) (k : L
     more {sign} {e} {a} {axs} (neg_some r part y rest is fresh u gives) = neg_some r part y rest is (up a (use_of false e) fresh) (more u) gives
     more {sign} {e} {a} {axs} (neg_all r part y z rest is fresh other u gives) = neg_all r part y z rest is (up a (use_of false e) fresh) (up y (rest_of a e) other) (more u) gives
 
-    pub more_each : {sign : Bool} {es : List Expr} {xs : List ℕ} {axs : List NormalAxiom} → UsesEach classes F sign es xs axs → UsesEach classes G sign es xs axs
+    pub more_each : {sign : Bool} {es : List Expr} {xs : List ℕ} {axs : List NormalAxiom} → RepresentsEach classes F sign es xs axs → RepresentsEach classes G sign es xs axs
     more_each at_end = at_end
     more_each (and_then here rest u v) = and_then here rest (more u) (more_each v)
 
@@ -104,7 +104,7 @@ module _ (classes : ℕ) where
     mentioned = mentioned_none m m (c ∷ []) [] (omega arith);
   }
 
-  minus_uses : (sign : Bool) (F : ℕ → Label → Type 0) (e : Expr) (c x : ℕ) → c < classes → e ≡ Minus (Name c) → F x (use_of sign e) → Uses classes F sign e x (minus_rows sign x c ++ [])
+  minus_uses : (sign : Bool) (F : ℕ → Label → Type 0) (e : Expr) (c x : ℕ) → c < classes → e ≡ Minus (Name c) → F x (use_of sign e) → Represents classes F sign e x (minus_rows sign x c ++ [])
   minus_uses true F e c x below is fresh = pos_minus c below is fresh refl
   minus_uses false F e c x below is fresh = neg_minus c below is fresh refl
 
@@ -120,7 +120,7 @@ module _ (classes : ℕ) where
     mentioned = mentioned_one old new x (minus_rows sign x c ++ []) close.0 close.1;
   }
 
-  some_uses : (sign : Bool) (F : ℕ → Label → Type 0) (e part : Expr) (r x y : ℕ) (axs : List NormalAxiom) → e ≡ SomeOf r part → F x (use_of sign e) → Uses classes F sign part y axs → Uses classes F sign e x (some_rows sign x r y ++ axs)
+  some_uses : (sign : Bool) (F : ℕ → Label → Type 0) (e part : Expr) (r x y : ℕ) (axs : List NormalAxiom) → e ≡ SomeOf r part → F x (use_of sign e) → Represents classes F sign part y axs → Represents classes F sign e x (some_rows sign x r y ++ axs)
   some_uses true F e part r x y axs is fresh u = pos_some r part y axs is fresh u refl
   some_uses false F e part r x y axs is fresh u = neg_some r part y axs is fresh u refl
 
@@ -191,16 +191,16 @@ module _ (classes : ℕ) where
     grows = λ a k f. f;
     count = count;
     axs = [];
-    uses = subst (λ l. UsesEach classes (IsFresh classes labels) sign [] l []) (sym is) at_end;
+    uses = subst (λ l. RepresentsEach classes (IsFresh classes labels) sign [] l []) (sym is) at_end;
     adds = adds_none m;
     paired = λ p. p;
     mentioned = mentioned_none m m xs [] (omega arith);
   }
 
-  uses_end : (F : ℕ → Label → Type 0) {sign : Bool} {es : List Expr} {xs : List ℕ} {axs : List NormalAxiom} → UsesEach classes F sign es xs axs → (e : Expr) (x : ℕ) (b : List NormalAxiom) → Uses classes F sign e x b → UsesEach classes F sign (es ++ e ∷ []) (xs ++ x ∷ []) (axs ++ (b ++ []))
+  uses_end : (F : ℕ → Label → Type 0) {sign : Bool} {es : List Expr} {xs : List ℕ} {axs : List NormalAxiom} → RepresentsEach classes F sign es xs axs → (e : Expr) (x : ℕ) (b : List NormalAxiom) → Represents classes F sign e x b → RepresentsEach classes F sign (es ++ e ∷ []) (xs ++ x ∷ []) (axs ++ (b ++ []))
   uses_end F at_end e x b u = and_then b [] u at_end
   uses_end F {sign} (and_then {e = d} {es = es} {x = y} {xs = xs} here rest v w) e x b u =
-      subst (UsesEach classes F sign (d ∷ (es ++ e ∷ [])) (y ∷ (xs ++ x ∷ []))) (sym (app_assoc here rest (b ++ []))) (and_then here (rest ++ (b ++ [])) v (uses_end F w e x b u))
+      subst (RepresentsEach classes F sign (d ∷ (es ++ e ∷ [])) (y ∷ (xs ++ x ∷ []))) (sym (app_assoc here rest (b ++ []))) (and_then here (rest ++ (b ++ [])) v (uses_end F w e x b u))
 
   each_more : (old mid new : Maker) (sign : Bool) (es : List Expr) (xs : List ℕ) (e : Expr) (x : ℕ) → IsUseEach classes old mid sign es xs → IsUse classes mid new sign e x → IsUseEach classes old new sign (es ++ e ∷ []) (xs ++ x ∷ [])
   each_more old mid new sign es xs e x f u = λ labels count.
@@ -225,7 +225,7 @@ module _ (classes : ℕ) where
       (subst (IsUseEach classes old new sign (map (form flipped) (take i parts) ++ form flipped e ∷ [])) (sym is)
       (each_more old mid new sign (map (form flipped) (take i parts)) made (form flipped e) x f u))
 
-  list_uses : (meet sign : Bool) (F : ℕ → Label → Type 0) (e : Expr) (parts : List Expr) (x : ℕ) (ys : List ℕ) (axs : List NormalAxiom) → e ≡ cond meet (Meet parts) (Join parts) → F x (use_of sign e) → UsesEach classes F sign parts ys axs → Uses classes F sign e x (list_rows meet sign x ys ++ axs)
+  list_uses : (meet sign : Bool) (F : ℕ → Label → Type 0) (e : Expr) (parts : List Expr) (x : ℕ) (ys : List ℕ) (axs : List NormalAxiom) → e ≡ cond meet (Meet parts) (Join parts) → F x (use_of sign e) → RepresentsEach classes F sign parts ys axs → Represents classes F sign e x (list_rows meet sign x ys ++ axs)
   list_uses true true F e parts x ys axs is fresh u = pos_meet parts ys axs is fresh u refl
   list_uses true false F e parts x ys axs is fresh u = neg_meet parts ys axs is fresh u refl
   list_uses false true F e parts x ys axs is fresh u = pos_join parts ys axs is fresh u refl
@@ -301,7 +301,7 @@ module _ (classes : ℕ) where
         uses = neg_all r (form flipped part) (x + 1) z m.axs refl
             (fresh_more classes one (rest_of x e) x (use_of false e) (fresh_end classes m.after (use_of false e) x (close.0 ∙ sym m.count)))
             (fresh_end classes one (rest_of x e) (x + 1) (omega (arith, l, q, is_x)))
-            (subst (λ (d : Expr). Uses classes (IsFresh classes two) true d z m.axs) (other_form flipped part) (more classes (IsFresh classes m.after) (IsFresh classes two) up m.uses)) refl;
+            (subst (λ (d : Expr). Represents classes (IsFresh classes two) true d z m.axs) (other_form flipped part) (more classes (IsFresh classes m.after) (IsFresh classes two) up m.uses)) refl;
         adds = adds_both old mid new m.axs (rest_rows x r z) m.adds close.2;
         paired = λ p. paired_rest classes one x e (omega (arith, l, n, q, is_x)) (paired_more classes m.after (use_of false e) (not_rest false e) (m.paired p));
         mentioned = mentioned_both old mid new (z ∷ []) (x ∷ []) m.axs (rest_rows x r z) m.mentioned (covers_rest x r z) (mentioned_rest mid new x r z close.0 close.1);

@@ -2,14 +2,14 @@
 use Rattle.std.proofs.Common.{◌≡◌, ℕ, ◌+◌, ◌≤◌, Bool, true, false, List, [], ◌∷◌, ◌++◌, map, refl, inl, inr, arith}
 use Rattle.std.proofs.lemmas.Bool.{cases_lt}
 use Rattle.cd_normal.specs.declared.maker.Maker.{Maker}
-use Rattle.cd_base.specs.Lists.{Member}
+use Rattle.cd_base.specs.Lists.{OneOf}
 use Rattle.cd_meaning.specs.NormalAxioms.{NormalAxiom, n2, n3, n4, implies, triple}
 use Rattle.cd_normal.specs.Made.{IsMentioned, Mentioned, some_rows, list_rows, rest_rows}
 use Rattle.cd_normal.proofs.Tests.{member_left, member_right, member_map}
 
 -- these axioms mention each of the atoms
 abbrev pub Covers : List ℕ → List NormalAxiom → Type 0
-Covers xs axs = (a : ℕ) → Member a xs → IsMentioned a axs
+Covers xs axs = (a : ℕ) → OneOf a xs → IsMentioned a axs
 
 pub mention_left : (a : ℕ) (axs bs : List NormalAxiom) → IsMentioned a axs → IsMentioned a (axs ++ bs)
 mention_left a axs bs (row, m, is) = (row, member_left row axs bs m, is)

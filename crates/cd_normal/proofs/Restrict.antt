@@ -8,9 +8,9 @@ use Rattle.cd_meaning.specs.declared.interpretation.Interpretation.{Interpretati
 use Rattle.cd_meaning.specs.Membership.{class_has, member}
 use Rattle.cd_meaning.specs.MembershipTable.{member-Name, member-Meet, member-Join, member-Minus, member-SomeOf, member-AllOf}
 use Rattle.cd_nnf.proofs.Members.{nnf_not_other}
-use Rattle.cd_base.specs.Lists.{Member}
+use Rattle.cd_base.specs.Lists.{OneOf}
 use Rattle.cd_meaning.specs.NormalAxioms.{NormalAxiom, n2, n3, n4, implies, triple, in_atom, HoldsNormal, AllHold}
-use Rattle.cd_normal.specs.Uses.{Label, Uses, UsesEach, by_name, pos_minus, pos_meet, pos_join, pos_some, pos_all, neg_minus, neg_meet, neg_join, neg_some, neg_all, at_end, and_then}
+use Rattle.cd_normal.specs.Represents.{Label, Represents, RepresentsEach, by_name, pos_minus, pos_meet, pos_join, pos_some, pos_all, neg_minus, neg_meet, neg_join, neg_some, neg_all, at_end, and_then}
 use Rattle.cd_normal.proofs.Tests.{Paired, member_left, member_right, member_map, all_by_member, any_member, true_or_false, not_true, target_within, some_edge, by_edge, by_edges, at_edge}
 
 module _ (i : Interpretation) where
@@ -25,8 +25,8 @@ module _ (i : Interpretation) where
   at_e : (e d : Expr) (x : ℕ) → e ≡ d → member i e x ≡ member i d x
   at_e e d x is = ap (λ (c : Expr). member i c x) is
 
-  has : (axs bs : List NormalAxiom) → axs ≡ bs → AllHold i axs → (a : NormalAxiom) → Member a bs → HoldsNormal i a
-  has axs bs is h a m = h a (subst (Member a) (sym is) m)
+  has : (axs bs : List NormalAxiom) → axs ≡ bs → AllHold i axs → (a : NormalAxiom) → OneOf a bs → HoldsNormal i a
+  has axs bs is h a m = h a (subst (OneOf a) (sym is) m)
 
   pub all_down : (es : List Expr) (ys : List ℕ) → EachSound true es ys → (x : ℕ) → x < i.size → list_all (λ y. in_atom i y x) ys ≡ true → list_all (λ e. member i e x) es ≡ true
   all_down [] ys s x l h = refl
@@ -85,7 +85,7 @@ module _ (i : Interpretation) where
     named false e c below is = λ x l h. agree c x below l ∙ sym (member-Name i x c) ∙ sym (at_e e (Name c) x is) ∙ h
 
     mutual
-      pub sound : {sign : Bool} {e : Expr} {a : ℕ} {axs : List NormalAxiom} → Uses classes Fresh sign e a axs → AllHold i axs → IsSound sign e a
+      pub sound : {sign : Bool} {e : Expr} {a : ℕ} {axs : List NormalAxiom} → Represents classes Fresh sign e a axs → AllHold i axs → IsSound sign e a
       sound {sign} {e} {a} {axs} (by_name below is none) t = named sign e a below is
       sound {sign} {e} {a} {axs} (pos_minus c below is fresh gives) t = λ x l h.
           at_e e (Minus (Name c)) x is ∙ member-Minus i x (Name c) ∙ (elim (true_or_false (member i (Name c) x)) [
@@ -127,6 +127,6 @@ module _ (i : Interpretation) where
           (sym (nnf_not_other i part w.0) ∙ sound u (λ b m. has axs _ gives t b (inr (inr m))) w.0 (target_within i r x w.0 w.1) w.2)
           (at_edge i r x (member i part) (sym (member-AllOf i x r part) ∙ sym (at_e e (AllOf r part) x is) ∙ h) w.0 w.1))
 
-      pub sound_each : {sign : Bool} {es : List Expr} {xs : List ℕ} {axs : List NormalAxiom} → UsesEach classes Fresh sign es xs axs → AllHold i axs → EachSound sign es xs
+      pub sound_each : {sign : Bool} {es : List Expr} {xs : List ℕ} {axs : List NormalAxiom} → RepresentsEach classes Fresh sign es xs axs → AllHold i axs → EachSound sign es xs
       sound_each at_end t = tt
       sound_each (and_then here more u v) t = (sound u (λ b m. t b (member_left b here more m)), sound_each v (λ b m. t b (member_right b here more m)))

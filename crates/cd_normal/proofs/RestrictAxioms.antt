@@ -13,21 +13,21 @@ use Rattle.cd_meaning.specs.Truth.{has_edge, Holds, IsBelow, IsSubRole, IsDistin
 use Rattle.cd_meaning.specs.MembershipTable.{member-Name, member-Join}
 use Rattle.cd_nnf.specs.Nnf.{nnf}
 use Rattle.cd_nnf.proofs.Members.{nnf_same}
-use Rattle.cd_base.specs.Lists.{Member}
+use Rattle.cd_base.specs.Lists.{OneOf}
 use Rattle.cd_meaning.specs.NormalAxioms.{NormalAxiom, n3, n4, n5, implies, triple, in_atom, HoldsNormal, AllHold}
-use Rattle.cd_normal.specs.Uses.{Label, Uses, UsesEach}
-use Rattle.cd_normal.specs.Method.{circle, Kept, Chain, UsesApart, GivesApart, Gives, GivesFrom, IsFresh, Restricts}
+use Rattle.cd_normal.specs.Represents.{Label, Represents, RepresentsEach}
+use Rattle.cd_normal.specs.NormalForm.{circle, Kept, Chain, RepresentsApart, GivesApart, Gives, GivesFrom, IsFresh, Restricts}
 use Rattle.cd_normal.proofs.Tests.{Paired, around, all_from_member, member_left, member_right, member_map, any_member, true_or_false, edge_from, source_within, target_within}
 use Rattle.cd_normal.proofs.Restrict.{IsSound, EachSound, any_down, all_up, any_up, step, clash, sound, sound_each}
 
-pub kept_has : (seen es kept : List Expr) → Kept seen es kept → (c : Expr) → Member c es → Member c seen ⊎ Member c kept
+pub kept_has : (seen es kept : List Expr) → Kept seen es kept → (c : Expr) → OneOf c es → OneOf c seen ⊎ OneOf c kept
 kept_has seen [] kept k c m = absurd m
-kept_has seen (e ∷ es) kept (inl k) c (inl is) = inl (subst (λ d. Member d seen) (sym is) k.0)
+kept_has seen (e ∷ es) kept (inl k) c (inl is) = inl (subst (λ d. OneOf d seen) (sym is) k.0)
 kept_has seen (e ∷ es) kept (inl k) c (inr m) = kept_has seen es kept k.1 c m
-kept_has seen (e ∷ es) kept (inr k) c (inl is) = inr (subst (Member c) (sym k.1.1) (inl is))
+kept_has seen (e ∷ es) kept (inr k) c (inl is) = inr (subst (OneOf c) (sym k.1.1) (inl is))
 kept_has seen (e ∷ es) kept (inr k) c (inr m) = elim (kept_has (e ∷ seen) es k.1.0 k.1.2 c m) [
-  | inl s ↦ elim s [ inl is ↦ inr (subst (Member c) (sym k.1.1) (inl is)) | inr t ↦ inl t ]
-  | inr t ↦ inr (subst (Member c) (sym k.1.1) (inr t))
+  | inl s ↦ elim s [ inl is ↦ inr (subst (OneOf c) (sym k.1.1) (inl is)) | inr t ↦ inl t ]
+  | inr t ↦ inr (subst (OneOf c) (sym k.1.1) (inr t))
 ]
 
 same_tree_no : {e c d : Expr} → c ≡ e → d ≡ e → c ≢ d → ⊥
@@ -48,13 +48,13 @@ module _ (i : Interpretation) where
   nnf_each sign (e ∷ es) [] s = absurd s
   nnf_each sign (e ∷ es) (x ∷ xs) s = (nnf_sound sign e x s.0, nnf_each sign es xs s.1)
 
-  pick : (es : List Expr) (xs : List ℕ) → EachSound i false es xs → (c : Expr) → Member c es → (x : ℕ) × Member x xs × IsSound i false c x
+  pick : (es : List Expr) (xs : List ℕ) → EachSound i false es xs → (c : Expr) → OneOf c es → (x : ℕ) × OneOf x xs × IsSound i false c x
   pick [] xs s c m = absurd m
   pick (e ∷ es) [] s c m = absurd s
   pick (e ∷ es) (x ∷ xs) s c (inl is) = (x, inl refl, subst (λ d. IsSound i false d x) (sym is) s.0)
   pick (e ∷ es) (x ∷ xs) s c (inr m) = let r = pick es xs s.1 c m in (r.0, inr r.1, r.2)
 
-  every_two : {X : Type 0} (R : X → X → Type 0) (xs : List X) → ((c d : X) → Member c xs → Member d xs → R c d) → EveryTwo R xs
+  every_two : {X : Type 0} (R : X → X → Type 0) (xs : List X) → ((c d : X) → OneOf c xs → OneOf d xs → R c d) → EveryTwo R xs
   every_two R xs h = all_from_member (λ c. All (λ d. R c d) xs) xs (λ c m. all_from_member (R c) xs (λ d k. h c d m k))
 
   paired_same : (l : List ℕ) → Paired (λ (r x : ℕ). r ≡ x) l l
@@ -62,7 +62,7 @@ module _ (i : Interpretation) where
   paired_same (r ∷ l) = (refl, paired_same l)
 
   from_axs : (axs bs : List NormalAxiom) → axs ≡ bs → AllHold i axs → AllHold i bs
-  from_axs axs bs is h a m = h a (subst (Member a) (sym is) m)
+  from_axs axs bs is h a m = h a (subst (OneOf a) (sym is) m)
 
   left_axs : (as' bs : List NormalAxiom) → AllHold i (as' ++ bs) → AllHold i as'
   left_axs as' bs h a m = h a (member_left a as' bs m)
@@ -72,16 +72,16 @@ module _ (i : Interpretation) where
 
   module _ (classes : ℕ) (Fresh : ℕ → Label → Type 0) (thing : (x : ℕ) → x < i.size → in_atom i 0 x ≡ true)
       (agree : (c x : ℕ) → c < classes → x < i.size → in_atom i c x ≡ class_has i c x) where
-    one : (sign : Bool) (e : Expr) (a : ℕ) (axs : List NormalAxiom) → Uses classes Fresh sign (nnf e) a axs → AllHold i axs → IsSound i sign e a
+    one : (sign : Bool) (e : Expr) (a : ℕ) (axs : List NormalAxiom) → Represents classes Fresh sign (nnf e) a axs → AllHold i axs → IsSound i sign e a
     one sign e a axs u t = nnf_sound sign e a (sound i classes Fresh agree u t)
 
-    list : (sign : Bool) (es : List Expr) (xs : List ℕ) (axs : List NormalAxiom) → UsesEach classes Fresh sign (map nnf es) xs axs → AllHold i axs → EachSound i sign es xs
+    list : (sign : Bool) (es : List Expr) (xs : List ℕ) (axs : List NormalAxiom) → RepresentsEach classes Fresh sign (map nnf es) xs axs → AllHold i axs → EachSound i sign es xs
     list sign es xs axs u t = nnf_each sign es xs (sound_each i classes Fresh agree u t)
 
     -- p has the first operands; no later one meets it, and no two of the later ones meet
     chain : (k : ℕ) (before : List Expr) (p : ℕ) (es : List Expr) (xs : List ℕ) (axs : List NormalAxiom) → Chain classes Fresh k before p es xs axs → AllHold i axs → EachSound i false es xs
-        → (x : ℕ) → x < i.size → ((c : Expr) → Member c es → member i c x ≡ true → in_atom i p x ≡ true → ⊥)
-        × ((c d : Expr) → Member c es → Member d es → c ≢ d → member i c x ≡ true → member i d x ≡ true → ⊥)
+        → (x : ℕ) → x < i.size → ((c : Expr) → OneOf c es → member i c x ≡ true → in_atom i p x ≡ true → ⊥)
+        × ((c d : Expr) → OneOf c es → OneOf d es → c ≢ d → member i c x ≡ true → member i d x ≡ true → ⊥)
     chain k before p [] xs axs g t s x l = absurd g
     chain k before p (e ∷ []) [] axs g t s x l = absurd g
     chain k before p (e ∷ f ∷ es) [] axs g t s x l = absurd g
@@ -103,8 +103,8 @@ module _ (i : Interpretation) where
           ],
         )
 
-    kept_apart : (k : ℕ) (kept : List Expr) (axs : List NormalAxiom) → UsesApart classes Fresh k kept axs → AllHold i axs
-        → (c d : Expr) → Member c kept → Member d kept → c ≢ d → (x : ℕ) → x < i.size → member i c x ≡ true → member i d x ≡ true → ⊥
+    kept_apart : (k : ℕ) (kept : List Expr) (axs : List NormalAxiom) → RepresentsApart classes Fresh k kept axs → AllHold i axs
+        → (c d : Expr) → OneOf c kept → OneOf d kept → c ≢ d → (x : ℕ) → x < i.size → member i c x ≡ true → member i d x ≡ true → ⊥
     kept_apart k [] axs u t c d m n apart x l w v = absurd m
     kept_apart k (e ∷ []) axs u t c d m n apart x l w v = elim m [ inl is ↦ elim n [ inl js ↦ same_tree_no is js apart | inr o ↦ absurd o ] | inr o ↦ absurd o ]
     kept_apart k (e ∷ f ∷ []) axs (xs, a, b, u, g, gives) t c d m n apart x l w v =
@@ -134,7 +134,7 @@ module _ (i : Interpretation) where
     disjoint k l axs (kept, is_kept, u) t = every_two (IsDistinctlyApart i) l (λ c d m n apart x below w v.
         kept_apart k kept axs u t c d (in_kept c m) (in_kept d n) apart x below w v)
       where
-        in_kept : (c : Expr) → Member c l → Member c kept
+        in_kept : (c : Expr) → OneOf c l → OneOf c kept
         in_kept c m = elim (kept_has [] l kept is_kept c m) [ inl s ↦ absurd s | inr w ↦ w ]
 
     gives_holds : (k : ℕ) (stated : Axiom) (axs : List NormalAxiom) → Gives classes Fresh k stated axs → AllHold i axs → Holds i stated
@@ -146,7 +146,7 @@ module _ (i : Interpretation) where
         let link : ℕ → ℕ → NormalAxiom = λ x y. implies (x ∷ []) (y ∷ []) in
         let h = from_axs axs (circle link xs ys ++ (a ++ b)) gives t in
         let rest = right_axs (circle link xs ys) (a ++ b) h in
-        let below : (c d : Expr) → Member c l → Member d l → IsBelow i c d = λ c d m n z w.
+        let below : (c d : Expr) → OneOf c l → OneOf d l → IsBelow i c d = λ c d m n z w.
         around link (λ e. member i e z ≡ true) (HoldsNormal i) (λ e x. IsSound i false e x) (λ e x. IsSound i true e x)
         (λ e f x y from to link q. to z w (step i x y link z w (from z w q)))
         l xs ys (list false l xs a u (left_axs a b rest)) (list true l ys b v (right_axs a b rest)) (left_axs (circle link xs ys) (a ++ b) h) c d m n in
@@ -172,7 +172,7 @@ module _ (i : Interpretation) where
     gives_holds k (SameRoles l) axs gives t =
         let link : ℕ → ℕ → NormalAxiom = λ r s. n5 (record { lower = r; higher = s }) in
         let h = from_axs axs (circle link l l) gives t in
-        let below : (r s : ℕ) → Member r l → Member s l → IsSubRole i r s = λ r s m n. sub_role r s (λ x y.
+        let below : (r s : ℕ) → OneOf r l → OneOf s l → IsSubRole i r s = λ r s m n. sub_role r s (λ x y.
         around link (λ r. has_edge i r x y ≡ true) (HoldsNormal i) (λ r x. r ≡ x) (λ r x. r ≡ x)
         (λ e f p q from to link w. subst (λ z. has_edge i z x y ≡ true) (sym to) (link x y (subst (λ z. has_edge i z x y ≡ true) from w)))
         l l l (paired_same l) (paired_same l) h r s m n) in

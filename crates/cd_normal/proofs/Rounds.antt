@@ -5,7 +5,7 @@ use Rattle.std.proofs.lemmas.List.{take_more, take_all}
 use Rattle.cd_meaning.specs.NormalAxioms.{NormalAxiom}
 use Rattle.cd_normal.specs.declared.maker.Maker.{Maker}
 use Rattle.cd_normal.specs.Made.{Adds}
-use Rattle.cd_normal.specs.Method.{circle_from, circle}
+use Rattle.cd_normal.specs.NormalForm.{circle_from, circle}
 use Rattle.cd_normal.proofs.Making.{get_left, get_end, adds_then}
 
 module _ {A : Type 0} (link : ℕ → ℕ → A) where

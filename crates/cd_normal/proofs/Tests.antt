@@ -5,10 +5,10 @@ use Rattle.std.proofs.lemmas.Bool.{and_parts, and_from, or_cases, or_left, or_ri
 use Rattle.cd_meaning.specs.declared.interpretation.Interpretation.{Interpretation}
 use Rattle.cd_meaning.specs.Membership.{goes, leads, keeps}
 use Rattle.cd_meaning.specs.Truth.{has_edge}
-use Rattle.cd_base.specs.Lists.{Member}
+use Rattle.cd_base.specs.Lists.{OneOf}
 pub use Rattle.cd_base.proofs.Members.{member_left, member_right, member_cases, member_map, map_member, all_by_member, all_member, any_by_member, any_member, all_of_member, all_from_member, true_or_false, not_true, same_tests}
 pub use Rattle.cd_meaning.proofs.Edges.{edge_of, edge_from, source_within, target_within}
-use Rattle.cd_normal.specs.Method.{circle_from, circle}
+use Rattle.cd_normal.specs.NormalForm.{circle_from, circle}
 
 -- R holds between the two lists, element by element
 abbrev pub Paired : {X : Type 0} → (X → ℕ → Type 0) → List X → List ℕ → Type 0
@@ -21,7 +21,7 @@ Paired R (x ∷ xs) (y ∷ ys) = R x y × Paired R xs ys
 module _ {X A : Type 0} (link : ℕ → ℕ → A) (P : X → Type 0) (T : A → Type 0) (From To : X → ℕ → Type 0)
     (go : (e f : X) (x y : ℕ) → From e x → To f y → T (link x y) → P e → P f) where
   around_from : (first e : X) (start x : ℕ) (es : List X) (xs ys : List ℕ) → To first start → From e x → Paired From es xs → Paired To es ys
-      → ((a : A) → Member a (circle_from link x xs ys start) → T a) → (d : X) → Member d (e ∷ es) → (P e → P d) × (P d → P first)
+      → ((a : A) → OneOf a (circle_from link x xs ys start) → T a) → (d : X) → OneOf d (e ∷ es) → (P e → P d) × (P d → P first)
   around_from first e start x [] [] ys to from fs ts t d (inl is) = (subst P (sym is), λ h. go e first x start from to (t (link x start) (inl refl)) (subst P is h))
   around_from first e start x [] [] ys to from fs ts t d (inr m) = absurd m
   around_from first e start x [] (z ∷ xs) ys to from fs ts t d m = absurd fs
@@ -29,19 +29,19 @@ module _ {X A : Type 0} (link : ℕ → ℕ → A) (P : X → Type 0) (T : A →
   around_from first e start x (f ∷ es) (z ∷ xs) [] to from fs ts t d m = absurd ts
   around_from first e start x (f ∷ es) (z ∷ xs) (y ∷ ys) to from fs ts t d m =
       let next : P e → P f = go e f x y from ts.0 (t (link x y) (inl refl)) in
-      let later : (d : X) → Member d (f ∷ es) → (P f → P d) × (P d → P first) = around_from first f start z es xs ys to fs.0 fs.1 ts.1 (λ a k. t a (inr k)) in
+      let later : (d : X) → OneOf d (f ∷ es) → (P f → P d) × (P d → P first) = around_from first f start z es xs ys to fs.0 fs.1 ts.1 (λ a k. t a (inr k)) in
       elim m [
         | inl is ↦ (subst P (sym is), λ h. (later f (inl refl)).1 (next (subst P is h)))
         | inr k ↦ (λ h. (later d k).0 (next h), (later d k).1)
       ]
 
-  pub around : (es : List X) (xs ys : List ℕ) → Paired From es xs → Paired To es ys → ((a : A) → Member a (circle link xs ys) → T a)
-      → (c d : X) → Member c es → Member d es → P c → P d
+  pub around : (es : List X) (xs ys : List ℕ) → Paired From es xs → Paired To es ys → ((a : A) → OneOf a (circle link xs ys) → T a)
+      → (c d : X) → OneOf c es → OneOf d es → P c → P d
   around [] xs ys fs ts t c d m k h = absurd m
   around (e ∷ es) [] ys fs ts t c d m k h = absurd fs
   around (e ∷ es) (x ∷ xs) [] fs ts t c d m k h = absurd ts
   around (e ∷ es) (x ∷ xs) (y ∷ ys) fs ts t c d m k h =
-      let all : (d : X) → Member d (e ∷ es) → (P e → P d) × (P d → P e) = around_from e e y x es xs ys ts.0 fs.0 fs.1 ts.1 t in
+      let all : (d : X) → OneOf d (e ∷ es) → (P e → P d) × (P d → P e) = around_from e e y x es xs ys ts.0 fs.0 fs.1 ts.1 t in
       (all d k).0 ((all c m).1 h)
 
 module _ (i : Interpretation) where

@@ -6,11 +6,11 @@ use Rattle.cd_meaning.specs.declared.expression.Axiom.{Axiom}
 use Rattle.cd_meaning.specs.Numbered.{has_numbers_below}
 use Rattle.cd_meaning.specs.NormalAxioms.{NormalAxiom, n1, n2, n3, n4, n5, HasNormal, implies}
 use Rattle.cd_base.specs.declared.normal.Normal.{Normal}
-use Rattle.cd_base.specs.Lists.{Member}
+use Rattle.cd_base.specs.Lists.{OneOf}
 use Rattle.cd_base.specs.Normal.{has_atoms_below, is_triple_below, has_roles_below}
 use Rattle.cd_normal.specs.declared.maker.Maker.{Maker}
-use Rattle.cd_normal.specs.Uses.{Label}
-use Rattle.cd_normal.specs.Method.{IsFresh, GivesFrom, IsByMethod}
+use Rattle.cd_normal.specs.Represents.{Label}
+use Rattle.cd_normal.specs.NormalForm.{IsFresh, GivesFrom, IsStructuralNormalForm}
 use Rattle.cd_normal.specs.Made.{HasNow, Adds, IsGiven, IsMadeOf}
 use Rattle.cd_normal.proofs.Tests.{all_by_member}
 use Rattle.cd_normal.proofs.Making.{adds_both}
@@ -20,11 +20,11 @@ use Rattle.cd_normal.proofs.RangesAxioms.{from_within}
 
 -- there are no axioms in empty lists
 pub empty_has : (m : Maker) → m.n1.items ≡ [] → m.n2.items ≡ [] → m.n3.items ≡ [] → m.n4.items ≡ [] → m.n5.items ≡ [] → (a : NormalAxiom) → HasNow m a → ⊥
-empty_has m e1 e2 e3 e4 e5 (n1 c) h = subst (Member c) e1 h
-empty_has m e1 e2 e3 e4 e5 (n2 t) h = subst (Member t) e2 h
-empty_has m e1 e2 e3 e4 e5 (n3 t) h = subst (Member t) e3 h
-empty_has m e1 e2 e3 e4 e5 (n4 t) h = subst (Member t) e4 h
-empty_has m e1 e2 e3 e4 e5 (n5 p) h = subst (Member p) e5 h
+empty_has m e1 e2 e3 e4 e5 (n1 c) h = subst (OneOf c) e1 h
+empty_has m e1 e2 e3 e4 e5 (n2 t) h = subst (OneOf t) e2 h
+empty_has m e1 e2 e3 e4 e5 (n3 t) h = subst (OneOf t) e3 h
+empty_has m e1 e2 e3 e4 e5 (n4 t) h = subst (OneOf t) e4 h
+empty_has m e1 e2 e3 e4 e5 (n5 p) h = subst (OneOf p) e5 h
 
 pub made_of : (classes : ℕ) (axioms : List Axiom) (old m1 m2 new : Maker) → old.next ≡ classes → ((a : NormalAxiom) → HasNow old a → ⊥) → IsGiven classes old m1 (λ F axs. GivesFrom classes F 0 axioms axs)
     → m2.next ≡ m1.next → Adds m1 m2 (implies (1 ∷ []) [] ∷ []) → new.next ≡ m2.next → Adds m2 new (implies [] (0 ∷ []) ∷ []) → IsMadeOf classes axioms new
@@ -85,17 +85,17 @@ module _ (document : Document) (m : Maker) (by : IsMadeOf (length document.class
 
   module _ (n : Normal) (e1 : n.n1 ≡ m.n1.items) (e2 : n.n2 ≡ m.n2.items) (e3 : n.n3 ≡ m.n3.items) (e4 : n.n4 ≡ m.n4.items) (e5 : n.n5 ≡ m.n5.items) where
     same_axioms : (a : NormalAxiom) → HasNormal n a ↔ HasNow m a
-    same_axioms (n1 c) = (subst (Member c) e1, subst (Member c) (sym e1))
-    same_axioms (n2 t) = (subst (Member t) e2, subst (Member t) (sym e2))
-    same_axioms (n3 t) = (subst (Member t) e3, subst (Member t) (sym e3))
-    same_axioms (n4 t) = (subst (Member t) e4, subst (Member t) (sym e4))
-    same_axioms (n5 p) = (subst (Member p) e5, subst (Member p) (sym e5))
+    same_axioms (n1 c) = (subst (OneOf c) e1, subst (OneOf c) (sym e1))
+    same_axioms (n2 t) = (subst (OneOf t) e2, subst (OneOf t) (sym e2))
+    same_axioms (n3 t) = (subst (OneOf t) e3, subst (OneOf t) (sym e3))
+    same_axioms (n4 t) = (subst (OneOf t) e4, subst (OneOf t) (sym e4))
+    same_axioms (n5 p) = (subst (OneOf p) e5, subst (OneOf p) (sym e5))
 
-    pub by_method : n.atoms ≡ m.next → n.roles ≡ length document.roles → n.named ≡ replicate (length document.classes) true ++ replicate (m.next - length document.classes) false → IsByMethod document n
+    pub by_method : n.atoms ≡ m.next → n.roles ≡ length document.roles → n.named ≡ replicate (length document.classes) true ++ replicate (m.next - length document.classes) false → IsStructuralNormalForm document n
     by_method atoms_is roles_is named_is =
         let atoms = by.atoms in
         let fresh : m.next - length document.classes ≡ length by.labels = omega (arith, atoms) in
-        let have : (a : NormalAxiom) → HasNormal n a ↔ Member a (implies [] (0 ∷ []) ∷ implies (1 ∷ []) [] ∷ by.axs) = λ a. (λ h. (by.have a).0 ((same_axioms a).0 h), λ k. (same_axioms a).1 ((by.have a).1 k)) in
+        let have : (a : NormalAxiom) → HasNormal n a ↔ OneOf a (implies [] (0 ∷ []) ∷ implies (1 ∷ []) [] ∷ by.axs) = λ a. (λ h. (by.have a).0 ((same_axioms a).0 h), λ k. (same_axioms a).1 ((by.have a).1 k)) in
         record {
           labels = by.labels;
           axs = by.axs;

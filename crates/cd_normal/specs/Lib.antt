@@ -1,5 +1,5 @@
 pub mod Codes
 pub mod Made
-pub mod Method
+pub mod NormalForm
 pub mod Operands
-pub mod Uses
+pub mod Represents

@@ -7,21 +7,21 @@ use Rattle.cd_meaning.specs.declared.expression.Axiom.TheVariants.{SameRoles}
 use Rattle.cd_meaning.specs.Nodes.{nodes_in}
 use Rattle.cd_nnf.specs.Nnf.{nnf, nnf_not}
 use Rattle.cd_normal.specs.declared.maker.Maker.{Maker}
-use Rattle.cd_base.specs.Lists.{Member}
+use Rattle.cd_base.specs.Lists.{OneOf}
 use Rattle.cd_meaning.specs.NormalAxioms.{NormalAxiom, n1, n2, n3, n4, n5, implies, triple}
-use Rattle.cd_normal.specs.Uses.{Label, rest_of, Uses, UsesEach}
-use Rattle.cd_normal.specs.Method.{IsFresh, Mentions, Gives, GivesFrom}
+use Rattle.cd_normal.specs.Represents.{Label, rest_of, Represents, RepresentsEach}
+use Rattle.cd_normal.specs.NormalForm.{IsFresh, Mentions, Gives, GivesFrom}
 
 abbrev pub HasNow : Maker → NormalAxiom → Type 0
-HasNow m (n1 c) = Member c m.n1.items
-HasNow m (n2 t) = Member t m.n2.items
-HasNow m (n3 t) = Member t m.n3.items
-HasNow m (n4 t) = Member t m.n4.items
-HasNow m (n5 p) = Member p m.n5.items
+HasNow m (n1 c) = OneOf c m.n1.items
+HasNow m (n2 t) = OneOf t m.n2.items
+HasNow m (n3 t) = OneOf t m.n3.items
+HasNow m (n4 t) = OneOf t m.n4.items
+HasNow m (n5 p) = OneOf p m.n5.items
 
 -- these axioms came, and no others
 abbrev pub Adds : Maker → Maker → List NormalAxiom → Type 0
-Adds old new axs = (a : NormalAxiom) → HasNow new a ↔ (HasNow old a ⊎ Member a axs)
+Adds old new axs = (a : NormalAxiom) → HasNow new a ↔ (HasNow old a ⊎ OneOf a axs)
 
 -- a fresh atom came, with these axioms
 abbrev pub Closes : Maker → Maker → ℕ → List NormalAxiom → Type 0
@@ -36,11 +36,11 @@ IsPaired classes labels = (a x : ℕ) (e : Expr) → IsFresh classes labels a (r
 
 -- one of these axioms mentions the atom
 abbrev pub IsMentioned : ℕ → List NormalAxiom → Type 0
-IsMentioned a axs = (row : NormalAxiom) × Member row axs × Mentions a row
+IsMentioned a axs = (row : NormalAxiom) × OneOf row axs × Mentions a row
 
 -- each atom that came is mentioned, but for these, which are left to what uses them
 abbrev pub Mentioned : Maker → Maker → List ℕ → List NormalAxiom → Type 0
-Mentioned old new left axs = (a : ℕ) → old.next ≤ a → a < new.next → Member a left ⊎ IsMentioned a axs
+Mentioned old new left axs = (a : ℕ) → old.next ≤ a → a < new.next → OneOf a left ⊎ IsMentioned a axs
 
 -- for every account of the fresh atoms so far there is one that goes on from it, and by it x is the pos or neg of e
 pub record Made (classes : ℕ) (old new : Maker) (labels : List Label) (sign : Bool) (e : Expr) (x : ℕ) : Type 0 where
@@ -48,7 +48,7 @@ pub record Made (classes : ℕ) (old new : Maker) (labels : List Label) (sign : 
   pub grows : (a : ℕ) (k : Label) → IsFresh classes labels a k → IsFresh classes after a k
   pub count : classes + length after ≡ new.next
   pub axs : List NormalAxiom
-  pub uses : Uses classes (IsFresh classes after) sign e x axs
+  pub uses : Represents classes (IsFresh classes after) sign e x axs
   pub adds : Adds old new axs
   pub paired : IsPaired classes labels → IsPaired classes after
   pub mentioned : Mentioned old new (x ∷ []) axs
@@ -61,7 +61,7 @@ pub record MadeEach (classes : ℕ) (old new : Maker) (labels : List Label) (sig
   pub grows : (a : ℕ) (k : Label) → IsFresh classes labels a k → IsFresh classes after a k
   pub count : classes + length after ≡ new.next
   pub axs : List NormalAxiom
-  pub uses : UsesEach classes (IsFresh classes after) sign es xs axs
+  pub uses : RepresentsEach classes (IsFresh classes after) sign es xs axs
   pub adds : Adds old new axs
   pub paired : IsPaired classes labels → IsPaired classes after
   pub mentioned : Mentioned old new xs axs
@@ -118,7 +118,7 @@ pub record IsMadeOf (classes : ℕ) (axioms : List Axiom) (m : Maker) : Type 0 w
   pub axs : List NormalAxiom
   pub gives : GivesFrom classes (IsFresh classes labels) 0 axioms axs
   pub atoms : m.next ≡ classes + length labels
-  pub have : (a : NormalAxiom) → HasNow m a ↔ Member a (implies [] (0 ∷ []) ∷ implies (1 ∷ []) [] ∷ axs)
+  pub have : (a : NormalAxiom) → HasNow m a ↔ OneOf a (implies [] (0 ∷ []) ∷ implies (1 ∷ []) [] ∷ axs)
   pub paired : IsPaired classes labels
   pub mentioned : (a : ℕ) → classes ≤ a → a < m.next → IsMentioned a axs
 

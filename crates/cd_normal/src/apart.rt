@@ -2,10 +2,10 @@
 ghost use Rattle.std.specs.Prelude.{◌≡◌, ◌<◌, ◌+◌, ◌*◌, ◌^◌, ℕ, sum_by, length, map, false, IsTrue, IfOk};
 ghost use Rattle.std.specs.List.{All, list_all};
 ghost use Rattle.cd_meaning.specs.Nodes.{nodes_of};
-ghost use Rattle.cd_meaning.specs.Numbered.{is_below};
+ghost use Rattle.cd_meaning.specs.Numbered.{is_in_range};
 ghost use Rattle.cd_nnf.specs.Nnf.{nnf};
 ghost use Rattle.cd_normal.specs.Made.{IsGiven, IsGrown, IsGrownBy, IsUseEach};
-ghost use Rattle.cd_normal.specs.Method.{GivesApart};
+ghost use Rattle.cd_normal.specs.NormalForm.{GivesApart};
 ghost use Rattle.cd_normal.specs.Operands.{operand};
 
 use crate::chain::chain;
@@ -25,7 +25,7 @@ pub(crate) fn apart(
     classes: u32,
     operands: &[Expr],
 ) -> Result<(), Memory>
-    requires within { (roles : ℕ) × IsTrue (list_all (is_below classes roles) operands.now) }
+    requires within { (roles : ℕ) × IsTrue (list_all (is_in_range classes roles) operands.now) }
     requires few { maker.old.next + 3 * sum_by nodes_of operands.now < 2 ^ 32 }
     ensures given { IfOk result (λ done. (k : ℕ) → IsGiven classes maker.old maker.new (λ Fresh axs. GivesApart classes Fresh k operands.now axs)) }
     ensures grown { IfOk result (λ done. IsGrown maker.old maker.new (3 * sum_by nodes_of operands.now) (6 * sum_by nodes_of operands.now)) }
@@ -46,7 +46,7 @@ fn used_at(
     operands: &[Expr],
     places: &[usize],
 ) -> Result<Vec<Atom>, Memory>
-    requires within { (roles : ℕ) × IsTrue (list_all (is_below classes roles) operands.now) }
+    requires within { (roles : ℕ) × IsTrue (list_all (is_in_range classes roles) operands.now) }
     requires inside { All (λ place. place < length operands.now) places.now }
     requires few { maker.old.next + 2 * sum_by nodes_of (map (operand operands.now) places.now) < 2 ^ 32 }
     ensures is_use { IfOk result (λ xs. IsUseEach classes maker.old maker.new false (map nnf (map (operand operands.now) places.now)) xs.items) }

@@ -1,7 +1,7 @@
 //! What each form of axiom gives.
 ghost use Rattle.std.specs.Prelude.{◌≡◌, ◌<◌, ◌+◌, ◌*◌, ◌^◌, ℕ, IsTrue, IfOk};
 ghost use Rattle.std.specs.List.{list_all};
-ghost use Rattle.cd_normal.specs.Method.{GivesFrom};
+ghost use Rattle.cd_normal.specs.NormalForm.{GivesFrom};
 ghost use Rattle.cd_meaning.specs.Nodes.{nodes_in, nodes};
 ghost use Rattle.cd_meaning.specs.Numbered.{has_numbers_below};
 ghost use Rattle.cd_meaning.specs.declared.expression.Axiom.TheVariants.{SubClass, SameClasses, DisjointUnion, SubRole, SameRoles, Domain, Range};
@@ -97,7 +97,7 @@ fn disjoint_union(
     apart(maker, alloc, classes, operands)?;
     maker.imply_each(alloc, class, &xs, false)?;
     let here = vec![in alloc; Atom(class)]?;
-    maker.imply(here, ys)?;
+    maker.add_implication(here, ys)?;
     Ok(())
 }
 
@@ -106,7 +106,7 @@ fn sub_role(maker: &mut Maker, classes: u32, lower: u32, higher: u32) -> Result<
     ensures given { IfOk result (λ done. IsGivenBy classes maker.old maker.new (SubRole lower higher)) }
     ensures grown { IfOk result (λ done. IsGrownOnce maker.old maker.new (SubRole lower higher)) }
 {
-    maker.under(lower, higher)?;
+    maker.add_role(lower, higher)?;
     Ok(())
 }
 
@@ -133,7 +133,7 @@ fn domain(
     ensures grown { IfOk result (λ done. IsGrownOnce maker.old maker.new (Domain role class.now)) }
 {
     let x = used(maker, alloc, classes, class, true, false)?;
-    maker.back(THING, role, x)?;
+    maker.add_propagation(THING, role, x)?;
     Ok(())
 }
 
@@ -151,7 +151,7 @@ fn range(
     ensures grown { IfOk result (λ done. IsGrownOnce maker.old maker.new (Range role class.now)) }
 {
     let x = used(maker, alloc, classes, class, true, false)?;
-    maker.far(0, role, x)?;
+    maker.add_universal(0, role, x)?;
     Ok(())
 }
 

@@ -3,7 +3,7 @@ ghost use Rattle.std.specs.Prelude.{◌≡◌, ◌≤◌, ◌<◌, ◌+◌, ◌*
 ghost use Rattle.cd_meaning.specs.NormalAxioms.{implies};
 ghost use Rattle.cd_meaning.specs.declared.expression.Expr.{Expr};
 ghost use Rattle.cd_normal.specs.Made.{rows, Adds, Closes, IsGiven, IsGrown};
-ghost use Rattle.cd_normal.specs.Method.{Apart};
+ghost use Rattle.cd_normal.specs.NormalForm.{Apart};
 
 use crate::maker::Maker;
 use cd_base::{Atom, Memory};
@@ -19,7 +19,7 @@ impl Maker {
         let p = Atom(self.fresh());
         let one = vec![in alloc; x]?;
         let union = vec![in alloc; p]?;
-        self.imply(one, union)?;
+        self.add_implication(one, union)?;
         Ok(p)
     }
 
@@ -33,7 +33,7 @@ impl Maker {
         let before = vec![in alloc; p]?;
         let q = self.above_one(alloc, x)?;
         let union = vec![in alloc; q]?;
-        self.imply(before, union)?;
+        self.add_implication(before, union)?;
         Ok(q)
     }
 
@@ -44,7 +44,7 @@ impl Maker {
         ensures few { rows self.new ≤ rows self.old + 1 }
     {
         let both = vec![in alloc; x, p]?;
-        self.imply(both, Vec::new(alloc))
+        self.add_implication(both, Vec::new(alloc))
     }
 }
 

@@ -1,7 +1,7 @@
 //! Lists of which each implies the next, and the last the first.
 ghost use Rattle.std.specs.Prelude.{◌≡◌, ◌∷◌, [], ◌+◌, ◌≤◌, ◌<◌, length, IfOk};
 ghost use Rattle.cd_normal.specs.Made.{rows, Adds, atom_link, role_link};
-ghost use Rattle.cd_normal.specs.Method.{circle};
+ghost use Rattle.cd_normal.specs.NormalForm.{circle};
 
 use crate::maker::Maker;
 use cd_base::{Atom, Memory, Role, RolePair};
@@ -40,7 +40,7 @@ impl Maker {
     }
 
     /// The first role is under the second. Constant time, but for growing the list.
-    pub(crate) fn under(&mut self, lower: u32, higher: u32) -> Result<(), Memory>
+    pub(crate) fn add_role(&mut self, lower: u32, higher: u32) -> Result<(), Memory>
         ensures next { self.new.next ≡ self.old.next }
         ensures few { rows self.new ≤ rows self.old + 1 }
         ensures adds { IfOk result (λ done. Adds self.old self.new (role_link lower higher ∷ [])) }
@@ -62,7 +62,7 @@ impl Maker {
             let next = wrapped(at, roles.len());
             let lower = roles[at];
             let higher = roles[next];
-            self.under(lower, higher)?;
+            self.add_role(lower, higher)?;
         }
         Ok(())
     }

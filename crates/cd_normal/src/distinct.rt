@@ -1,7 +1,7 @@
 //! The first operand of each tree.
 ghost use Rattle.std.specs.Prelude.{◌<◌, [], map, length, IfOk};
 ghost use Rattle.std.specs.List.{All};
-ghost use Rattle.cd_normal.specs.Method.{Kept};
+ghost use Rattle.cd_normal.specs.NormalForm.{Kept};
 ghost use Rattle.cd_normal.specs.Operands.{operand};
 
 use crate::codes::write_code;

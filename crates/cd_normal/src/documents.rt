@@ -5,7 +5,7 @@ ghost use Rattle.cd_base.specs.Normal.{has_atoms_below, is_triple_below, has_rol
 ghost use Rattle.cd_meaning.specs.Nodes.{nodes};
 ghost use Rattle.cd_meaning.specs.Numbered.{has_numbers_below};
 ghost use Rattle.cd_normal.specs.Made.{IsMadeOf, count, role_operands, rows};
-ghost use Rattle.cd_normal.specs.Method.{IsByMethod, Extension};
+ghost use Rattle.cd_normal.specs.NormalForm.{IsStructuralNormalForm, Extension};
 ghost use Rattle.cd_meaning.specs.Entailment.{IsModel};
 ghost use Rattle.cd_meaning.specs.NormalAxioms.{IsNormalModel};
 ghost use Rattle.cd_meaning.specs.declared.interpretation.Interpretation.{Interpretation};
@@ -22,7 +22,7 @@ use std::alloc::Global;
 /// structural transformation, with a fresh atom for each use of an expression.
 pub fn normalise(alloc: Global, document: &Document) -> Result<Normal, Memory>
     requires few { length document.now.classes + 6 * nodes document.now.axioms < 2 ^ 32 - 1 }
-    ensures method { IfOk result (λ normal. IsByMethod document.now normal) }
+    ensures method { IfOk result (λ normal. IsStructuralNormalForm document.now normal) }
 
     // Every interpretation in which they hold is one of the document, and every one of the document extends to one in which they hold.
     ensures restricts { IfOk result (λ normal. (i : Interpretation) → IsNormalModel normal i → IsModel document.now.axioms i) }
@@ -57,9 +57,9 @@ fn made(alloc: Global, classes: u32, axioms: &[Axiom]) -> Result<Maker, Memory>
     };
     all_give(&mut maker, alloc, classes, axioms)?;
     let nothing = vec![in alloc; Atom(NOTHING)]?;
-    maker.imply(nothing, Vec::new(alloc))?;
+    maker.add_implication(nothing, Vec::new(alloc))?;
     let thing = vec![in alloc; Atom(THING)]?;
-    maker.imply(Vec::new(alloc), thing)?;
+    maker.add_implication(Vec::new(alloc), thing)?;
     Ok(maker)
 }
 

@@ -2,13 +2,13 @@
 //!
 //! `normalise` (`documents`) turns each axiom into normal axioms (`axioms`), by structural transformation: an expression that is not a
 //! class gets a fresh atom, above the expression where it stands on the left (neg) and below it where it stands on the right (pos), and
-//! normal axioms that say so (`uses`, one row of the method's table each in `rows`). Equivalent operands imply each other in a circle
+//! normal axioms that say so (`uses`, one row each of its table in `rows`). Equivalent operands imply each other in a circle
 //! (`circles`); operands of a disjointness are told apart as trees by a code of each (`codes`, `distinct`) and kept apart by a chain of
 //! fresh atoms (`chain`, `apart`), so that no axiom is made for each pair. `maker` holds the normal axioms in the making.
 //!
 //! No negation normal form is built: a complement turns the side.
 //!
-//! What the method is stands in `specs/Uses.antt` and `specs/Method.antt`, as a relation between a document, a choice of atoms and a
+//! What the structural normal form is stands in `specs/Represents.antt` and `specs/NormalForm.antt`, as a relation between a document, a choice of atoms and a
 //! list of normal axioms. That it loses and adds nothing is proved of the relation (`laws`), apart from the code.
 #![tactic(auto)]
 

@@ -1,4 +1,4 @@
-//! One row of the method's table each: a fresh atom for an expression whose parts have atoms, and the axioms that say so.
+//! One row each of the structural transformation's table: a fresh atom for an expression whose parts have atoms, and the axioms that say so.
 ghost use Rattle.std.specs.Prelude.{◌≡◌, ◌∷◌, [], ◌+◌, ◌^◌, ◌≤◌, ◌<◌, length, IfOk};
 ghost use Rattle.cd_meaning.specs.NormalAxioms.{implies, triple, n2, n3, n4};
 ghost use Rattle.cd_normal.specs.Made.{rows, Adds, Closes, ClosesTwo, rest_rows, minus_rows, some_rows, list_rows, link_rows};
@@ -9,7 +9,7 @@ use std::alloc::Global;
 
 impl Maker {
     /// What is in every atom on the left is in some atom on the right. Constant time, but for growing the list; so are the others below that add one axiom.
-    pub(crate) fn imply(&mut self, left: Vec<Atom>, right: Vec<Atom>) -> Result<(), Memory>
+    pub(crate) fn add_implication(&mut self, left: Vec<Atom>, right: Vec<Atom>) -> Result<(), Memory>
         ensures next { self.new.next ≡ self.old.next }
         ensures few { rows self.new ≤ rows self.old + 1 }
         ensures adds { IfOk result (λ done. Adds self.old self.new (implies left.items right.items ∷ [])) }
@@ -22,7 +22,7 @@ impl Maker {
     }
 
     /// Every element of the atom has an edge of the role to an element of the other.
-    fn give(&mut self, atom: u32, role: u32, other: u32) -> Result<(), Memory>
+    fn add_existential(&mut self, atom: u32, role: u32, other: u32) -> Result<(), Memory>
         ensures next { self.new.next ≡ self.old.next }
         ensures few { rows self.new ≤ rows self.old + 1 }
         ensures adds { IfOk result (λ done. Adds self.old self.new (n2 (triple atom role other) ∷ [])) }
@@ -36,7 +36,7 @@ impl Maker {
     }
 
     /// Every element with an edge of the role to an element of the atom is in the other.
-    pub(crate) fn back(&mut self, atom: u32, role: u32, other: u32) -> Result<(), Memory>
+    pub(crate) fn add_propagation(&mut self, atom: u32, role: u32, other: u32) -> Result<(), Memory>
         ensures next { self.new.next ≡ self.old.next }
         ensures few { rows self.new ≤ rows self.old + 1 }
         ensures adds { IfOk result (λ done. Adds self.old self.new (n3 (triple atom role other) ∷ [])) }
@@ -71,9 +71,9 @@ impl Maker {
         let x = self.fresh();
         let both = vec![in alloc; Atom(x), Atom(class)]?;
         if sign {
-            self.imply(both, Vec::new(alloc))?;
+            self.add_implication(both, Vec::new(alloc))?;
         } else {
-            self.imply(Vec::new(alloc), both)?;
+            self.add_implication(Vec::new(alloc), both)?;
         }
         Ok(x)
     }
@@ -86,9 +86,9 @@ impl Maker {
     {
         let x = self.fresh();
         if sign {
-            self.give(x, role, part)?;
+            self.add_existential(x, role, part)?;
         } else {
-            self.back(part, role, x)?;
+            self.add_propagation(part, role, x)?;
         }
         Ok(x)
     }
@@ -128,9 +128,9 @@ impl Maker {
         let here = vec![in alloc; Atom(x)]?;
         let there = vec![in alloc; y]?;
         if outward {
-            self.imply(here, there)
+            self.add_implication(here, there)
         } else {
-            self.imply(there, here)
+            self.add_implication(there, here)
         }
     }
 
@@ -152,9 +152,9 @@ impl Maker {
         } else {
             let here = vec![in alloc; Atom(x)]?;
             if sign {
-                self.imply(here, ys)?;
+                self.add_implication(here, ys)?;
             } else {
-                self.imply(ys, here)?;
+                self.add_implication(ys, here)?;
             }
         }
         Ok(x)
@@ -163,7 +163,7 @@ impl Maker {
 
 impl Maker {
     /// Every edge of the role from an element of the atom goes to an element of the other.
-    pub(crate) fn far(&mut self, atom: u32, role: u32, other: u32) -> Result<(), Memory>
+    pub(crate) fn add_universal(&mut self, atom: u32, role: u32, other: u32) -> Result<(), Memory>
         ensures next { self.new.next ≡ self.old.next }
         ensures few { rows self.new ≤ rows self.old + 1 }
         ensures adds { IfOk result (λ done. Adds self.old self.new (n4 (triple atom role other) ∷ [])) }
@@ -183,7 +183,7 @@ impl Maker {
         ensures few { rows self.new ≤ rows self.old + 1 }
     {
         let x = self.fresh();
-        self.far(x, role, part)?;
+        self.add_universal(x, role, part)?;
         Ok(x)
     }
 
@@ -196,8 +196,8 @@ impl Maker {
         let x = self.fresh();
         let y = self.fresh();
         let both = vec![in alloc; Atom(x), Atom(y)]?;
-        self.give(y, role, part)?;
-        self.imply(Vec::new(alloc), both)?;
+        self.add_existential(y, role, part)?;
+        self.add_implication(Vec::new(alloc), both)?;
         Ok(x)
     }
 }

@@ -2,7 +2,7 @@
 ghost use Rattle.std.specs.Prelude.{◌≡◌, ◌+◌, ◌*◌, ◌<◌, ◌^◌, ℕ, sum_by, length, IsTrue, IfOk, map};
 ghost use Rattle.std.specs.List.{list_all};
 ghost use Rattle.cd_meaning.specs.Nodes.{nodes_of};
-ghost use Rattle.cd_meaning.specs.Numbered.{is_below};
+ghost use Rattle.cd_meaning.specs.Numbered.{is_in_range};
 ghost use Rattle.cd_meaning.specs.declared.expression.Expr.TheVariants.{AllOf};
 ghost use Rattle.cd_normal.specs.Made.{form, IsUse, IsUseEach, IsGrownBy};
 
@@ -23,7 +23,7 @@ pub fn used(
     sign: bool,
     flipped: bool,
 ) -> Result<u32, Memory>
-    requires within { (roles : ℕ) × IsTrue (is_below classes roles e.now) }
+    requires within { (roles : ℕ) × IsTrue (is_in_range classes roles e.now) }
     requires few { maker.old.next + 2 * nodes_of e.now < 2 ^ 32 }
     ensures is_use { IfOk result (λ x. IsUse classes maker.old maker.new sign (form flipped e.now) x) }
     ensures grown { IfOk result (λ x. IsGrownBy maker.old maker.new sign 1 (nodes_of e.now)) }
@@ -74,7 +74,7 @@ fn universal(
     sign: bool,
     flipped: bool,
 ) -> Result<u32, Memory>
-    requires within { (roles : ℕ) × IsTrue (is_below classes roles part.now) }
+    requires within { (roles : ℕ) × IsTrue (is_in_range classes roles part.now) }
     requires few { maker.old.next + 2 * (1 + nodes_of part.now) < 2 ^ 32 }
     ensures is_use { IfOk result (λ x. IsUse classes maker.old maker.new sign (AllOf role (form flipped part.now)) x) }
     ensures grown { IfOk result (λ x. IsGrownBy maker.old maker.new sign 1 (1 + nodes_of part.now)) }
@@ -100,7 +100,7 @@ pub(crate) fn used_each(
     sign: bool,
     flipped: bool,
 ) -> Result<Vec<Atom>, Memory>
-    requires within { (roles : ℕ) × IsTrue (list_all (is_below classes roles) parts.now) }
+    requires within { (roles : ℕ) × IsTrue (list_all (is_in_range classes roles) parts.now) }
     requires few { maker.old.next + 2 * sum_by nodes_of parts.now < 2 ^ 32 }
     ensures is_use { IfOk result (λ xs. IsUseEach classes maker.old maker.new sign (map (form flipped) parts.now) xs.items) }
     ensures same_length { IfOk result (λ xs. length xs.items ≡ length parts.now) }

@@ -1,7 +1,7 @@
 -- The rule All with the elements of one clause, and with those of clauses by number.
 use Rattle.std.proofs.Common.{◌≡◌, ℕ, List, [], ◌∷◌, ◌++◌, length, get_or, refl, sym, ◌∙◌, subst, arith}
 use Rattle.std.specs.List.{remove}
-use Rattle.cd_base.specs.Lists.{Member, SameSet}
+use Rattle.cd_base.specs.Lists.{OneOf, SameSet}
 use Rattle.cd_base.specs.Keys.{plain, key_with}
 use Rattle.cd_base.specs.declared.normal.Normal.{Normal}
 use Rattle.cd_base.specs.declared.normal.Triple.{Triple}
@@ -25,7 +25,7 @@ all_by_same n r k left right left' right' s u t d p =
     let e : Elem = Exist r (key_with (plain t.other) k) in
     (p.0, same_set_trans d (e ∷ (left ++ right)) (e ∷ (left' ++ right')) p.1 (same_set_cons e (left ++ right) (left' ++ right') (same_set_append left right left' right' s u)))
 
-none_in : (triples : List Triple) → length triples ≡ 0 → (t : Triple) → Member t triples → ⊥
+none_in : (triples : List Triple) → length triples ≡ 0 → (t : Triple) → OneOf t triples → ⊥
 none_in [] z t m = m
 none_in (s ∷ triples) z t m = absurd (omega arith)
 
@@ -75,7 +75,7 @@ module _ (n : Normal) (r : ℕ) (k : List ℕ) (others c : List Elem) where
 
 -- for an atom, with the existentials of all clauses
 module _ (n : Normal) (a : ℕ) (triples : List Triple) (others : List Elem) (clauses : List (List Elem)) (choices : List ℕ) (at : AreAtAtom n.n4 a triples) where
-  by_exist : (c : List Elem) → Member c (picked clauses choices) → (e : Elem) (d : List Elem) → IsAllAtExist n triples others c e d → IsAllOfAtom n (IsPicked clauses choices) a others d
+  by_exist : (c : List Elem) → OneOf c (picked clauses choices) → (e : Elem) (d : List Elem) → IsAllAtExist n triples others c e d → IsAllOfAtom n (IsPicked clauses choices) a others d
   by_exist c m (Plain b) d p = absurd p
   by_exist c m (Exist r k) d (el, (t, mt, (under, s))) = let w = (at t).0 mt in (t, w.0, w.1, (c, m, (r, k, el, under, s)))
 
@@ -90,7 +90,7 @@ module _ (n : Normal) (a : ℕ) (triples : List Triple) (others : List Elem) (cl
 
 -- for an existential, with the atoms of all clauses
 module _ (n : Normal) (r : ℕ) (k : List ℕ) (others : List Elem) (clauses : List (List Elem)) (choices : List ℕ) where
-  by_atom : (c : List Elem) → Member c (picked clauses choices) → (e : Elem) (d : List Elem) → IsAllAtAtom n r k others c e d → IsAllOfExist n (IsPicked clauses choices) r k others d
+  by_atom : (c : List Elem) → OneOf c (picked clauses choices) → (e : Elem) (d : List Elem) → IsAllAtAtom n r k others c e d → IsAllOfExist n (IsPicked clauses choices) r k others d
   by_atom c m (Plain a) d (el, (t, mt, q, (under, s))) =
       (t, mt, under, (c, m, subst (λ w. Eligible n (Plain w) c) (sym q) el, subst (λ w. SameSet d (Exist r (key_with (plain t.other) k) ∷ (others ++ rest (Plain w) c))) (sym q) s))
   by_atom c m (Exist s l) d p = absurd p

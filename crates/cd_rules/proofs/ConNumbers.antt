@@ -1,7 +1,7 @@
 -- The rule Con by numbered axioms.
 use Rattle.std.proofs.Common.{◌≡◌, ℕ, ◌+◌, ◌<◌, List, [], ◌∷◌, length, get_or, refl, sym, ◌∙◌, ap, subst, inl, inr}
 use Rattle.std.proofs.lemmas.List.{get_or_read}
-use Rattle.cd_base.specs.Lists.{Member}
+use Rattle.cd_base.specs.Lists.{OneOf}
 use Rattle.cd_base.specs.declared.normal.Conj.{Conj}
 use Rattle.cd_base.specs.declared.normal.Normal.{Normal}
 use Rattle.cd_base.proofs.Members.{member_right, member_get, member_at}
@@ -30,7 +30,7 @@ left_at : (axioms : List Conj) (k : ℕ) (x : Conj) → k < length axioms → ge
 left_at axioms k x l e = left_is axioms k x l ∙ ap (λ (c : Conj). c.left) e
 
 -- each of the atoms for which clauses are had is eligible in one
-rests_at_hand : (n : Normal) (Has : List Elem → Type 0) (atom : ℕ) (taken : List ℕ) (m : List Elem) → Rests n Has taken m → (b : ℕ) → Member b taken → IsAtHand n Has atom b
+rests_at_hand : (n : Normal) (Has : List Elem → Type 0) (atom : ℕ) (taken : List ℕ) (m : List Elem) → Rests n Has taken m → (b : ℕ) → OneOf b taken → IsAtHand n Has atom b
 rests_at_hand n Has atom [] m r b z = absurd z
 rests_at_hand n Has atom (a ∷ taken) m r b (inl e) = inr (r.0, r.1, subst (λ w. Eligible n (Plain w) r.0) (sym e) r.2)
 rests_at_hand n Has atom (a ∷ taken) m r b (inr z) = rests_at_hand n Has atom taken r.3.tail r.3.rests b z
@@ -40,7 +40,7 @@ module _ (n : Normal) (clauses : List (List Elem)) (choices numbers : List ℕ) 
   by_number d q =
       let x : Conj = q.2.0 in
       let l : get_or numbers q.0 0 < length n.n1 = among.in_range (get_or numbers q.0 0) (member_get numbers q.0 0 q.1) in
-      (x, subst (λ w. Member w n.n1) (sym q.2.1) (member_get n.n1 (get_or numbers q.0 0) x l), q.2.2)
+      (x, subst (λ w. OneOf w n.n1) (sym q.2.1) (member_get n.n1 (get_or numbers q.0 0) x l), q.2.2)
 
   pub number_by : (d : List Elem) → IsCon n (IsPicked clauses choices) atom others d → OfBelow (OfNumber n clauses choices numbers atom others) (length numbers) d
   number_by d q =
@@ -48,7 +48,7 @@ module _ (n : Normal) (clauses : List (List Elem)) (choices numbers : List ℕ) 
       let w = member_at x n.n1 q.1 in
       let left : left_of n.n1 w.0 ≡ x.left = left_at n.n1 w.0 x w.1 (w.2 x) in
       let taken : List ℕ = q.2.0 in
-      let m : Member w.0 numbers = among.every w.0 w.1 taken (subst (λ v. IsWithoutOne atom v taken) (sym left) q.2.1)
+      let m : OneOf w.0 numbers = among.every w.0 w.1 taken (subst (λ v. IsWithoutOne atom v taken) (sym left) q.2.1)
       (rests_at_hand n (IsPicked clauses choices) atom taken q.2.2.0 q.2.2.1) in
       let p = member_at w.0 numbers m in
       (p.0, p.1, (x, sym (w.2 x) ∙ ap (λ k. get_or n.n1 k x) (sym (p.2 0)), q.2))
@@ -91,5 +91,5 @@ module _ (n : Normal) (clauses : List (List Elem)) (choices numbers : List ℕ) 
 pub with_left_try : (n : Normal) (Has : List Elem → Type 0) (atom : ℕ) (numbers : List ℕ) → AreNumbers n.n1 numbers → HasAllWith n.n1 atom numbers → AreCandidates n Has atom numbers
 with_left_try n Has atom numbers within all = record {
   in_range = within;
-  every = λ k lt taken w h. all k lt (subst (Member atom) (sym w.2) (member_right atom w.0 (atom ∷ w.1) (inl refl)));
+  every = λ k lt taken w h. all k lt (subst (OneOf atom) (sym w.2) (member_right atom w.0 (atom ∷ w.1) (inl refl)));
 }

@@ -1,7 +1,7 @@
 -- Walks over a list that append, for each item in turn, what is concluded by that item.
 use Rattle.std.proofs.Common.{◌≡◌, ℕ, ◌+◌, ◌<◌, ◌≤◌, ◌⊎◌, List, [], ◌∷◌, length, get_or, take, drop, sym, ◌∙◌, subst, inl, inr}
 use Rattle.std.proofs.lemmas.List.{take_more, take_all, take-append-drop}
-use Rattle.cd_base.specs.Lists.{Member}
+use Rattle.cd_base.specs.Lists.{OneOf}
 use Rattle.cd_base.proofs.Members.{member_left, member_right, member_cases}
 use Rattle.cd_clause.specs.declared.elem.Elem.{Elem}
 use Rattle.cd_base.specs.Appends.{Appends}
@@ -12,20 +12,20 @@ use Rattle.cd_rules.specs.Walks.{ByOne}
 
 -- the items up to a place, where there is one more
 module _ {X : Type 0} (items : List X) (i : ℕ) (x d : X) (l : i < length items) (e : x ≡ get_or items i d) where
-  pub last_taken : Member x (take (i + 1) items)
-  last_taken = subst (Member x) (sym (take_more items i d l)) (member_right x (take i items) (get_or items i d ∷ []) (inl e))
+  pub last_taken : OneOf x (take (i + 1) items)
+  last_taken = subst (OneOf x) (sym (take_more items i d l)) (member_right x (take i items) (get_or items i d ∷ []) (inl e))
 
-  pub taken_more : (y : X) → Member y (take i items) → Member y (take (i + 1) items)
-  taken_more y m = subst (Member y) (sym (take_more items i d l)) (member_left y (take i items) (get_or items i d ∷ []) m)
+  pub taken_more : (y : X) → OneOf y (take i items) → OneOf y (take (i + 1) items)
+  taken_more y m = subst (OneOf y) (sym (take_more items i d l)) (member_left y (take i items) (get_or items i d ∷ []) m)
 
-  pub taken_cases : (y : X) → Member y (take (i + 1) items) → Member y (take i items) ⊎ (y ≡ x)
-  taken_cases y m = elim (member_cases y (take i items) (get_or items i d ∷ []) (subst (Member y) (take_more items i d l) m)) [
+  pub taken_cases : (y : X) → OneOf y (take (i + 1) items) → OneOf y (take i items) ⊎ (y ≡ x)
+  taken_cases y m = elim (member_cases y (take i items) (get_or items i d ∷ []) (subst (OneOf y) (take_more items i d l) m)) [
     | inl k ↦ inl k
     | inr k ↦ elim k [ inl q ↦ inr (q ∙ sym e) | inr z ↦ absurd z ]
   ]
 
-pub taken : {X : Type 0} (items : List X) (i : ℕ) (y : X) → Member y (take i items) → Member y items
-taken items i y m = subst (Member y) (take-append-drop i items) (member_left y (take i items) (drop i items) m)
+pub taken : {X : Type 0} (items : List X) (i : ℕ) (y : X) → OneOf y (take i items) → OneOf y items
+taken items i y m = subst (OneOf y) (take-append-drop i items) (member_left y (take i items) (drop i items) m)
 
 -- what the first i items give was appended
 abbrev pub SoFar : {X : Type 0} → (X → List Elem → Type 0) → List X → ℕ → List (List Elem) → List (List Elem) → Type 0

@@ -1,7 +1,7 @@
 -- Clauses by number, and walks over numbers that append what is concluded with each of these clauses.
 use Rattle.std.proofs.Common.{◌≡◌, ℕ, ◌+◌, ◌<◌, ◌≤◌, List, [], ◌∷◌, length, get_or, refl, ap, subst, inl, inr}
 use Rattle.std.proofs.lemmas.List.{get_or_read}
-use Rattle.cd_base.specs.Lists.{Member}
+use Rattle.cd_base.specs.Lists.{OneOf}
 use Rattle.cd_base.proofs.Members.{member_get}
 use Rattle.cd_clause.specs.declared.elem.Elem.{Elem}
 use Rattle.cd_clause.specs.Numbers.{picked}
@@ -10,12 +10,12 @@ use Rattle.cd_rules.specs.Among.{Among}
 use Rattle.cd_rules.specs.Walks.{ByOne}
 use Rattle.cd_rules.proofs.EachItem.{SoFar, goes_on, stops, ends}
 
-pub member_picked : (clauses : List (List Elem)) (numbers : List ℕ) (m : ℕ) → Member m numbers → Member (get_or clauses m []) (picked clauses numbers)
+pub member_picked : (clauses : List (List Elem)) (numbers : List ℕ) (m : ℕ) → OneOf m numbers → OneOf (get_or clauses m []) (picked clauses numbers)
 member_picked clauses [] m k = absurd k
 member_picked clauses (n ∷ numbers) m (inl e) = inl (ap (λ w. get_or clauses w []) e)
 member_picked clauses (n ∷ numbers) m (inr k) = inr (member_picked clauses numbers m k)
 
-pub picked_member : (clauses : List (List Elem)) (numbers : List ℕ) (c : List Elem) → Member c (picked clauses numbers) → (m : ℕ) × Member m numbers × (c ≡ get_or clauses m [])
+pub picked_member : (clauses : List (List Elem)) (numbers : List ℕ) (c : List Elem) → OneOf c (picked clauses numbers) → (m : ℕ) × OneOf m numbers × (c ≡ get_or clauses m [])
 picked_member clauses [] c k = absurd k
 picked_member clauses (n ∷ numbers) c (inl e) = (n, inl refl, e)
 picked_member clauses (n ∷ numbers) c (inr k) = let r = picked_member clauses numbers c k in (r.0, inr r.1, r.2)
@@ -36,7 +36,7 @@ module _ (Q : List Elem → List Elem → Type 0) (clauses : List (List Elem)) (
       → SoFarWith i old new → ((d : List Elem) → ByOne Q (picked clauses numbers) d → P d) → ((d : List Elem) → P d → ByOne Q (picked clauses numbers) d) → Appends Among P Done old new
   ends_with P i l a f g = ends P (λ m. Q (get_or clauses m [])) numbers i l a (λ d p. f d (by_clause d p)) (λ d p. by_number d (g d p))
 
-  module _ (i : ℕ) (l : i < length numbers) (within : (k : ℕ) → Member k numbers → k < length clauses) where
+  module _ (i : ℕ) (l : i < length numbers) (within : (k : ℕ) → OneOf k numbers → k < length clauses) where
     pub in_range : get_or numbers i 0 < length clauses
     in_range = within (get_or numbers i 0) (member_get numbers i 0 l)
 

@@ -2,7 +2,7 @@
 use Rattle.std.proofs.Common.{◌≡◌, ◌↔◌, ℕ, zero, suc, ◌+◌, ◌-◌, ◌<◌, ◌≤◌, ◌==◌, Bool, true, false, List, [], ◌∷◌, length, get_or, refl, sym, ◌∙◌, subst, inl, inr, arith}
 use Rattle.std.proofs.lemmas.Bool.{both_ways, cond_both, false≢true}
 use Rattle.std.specs.List.{remove}
-use Rattle.cd_base.specs.Lists.{Member, SameSet}
+use Rattle.cd_base.specs.Lists.{OneOf, SameSet}
 use Rattle.cd_base.specs.Ascending.{Ascending}
 use Rattle.cd_base.specs.Keys.{is_named}
 use Rattle.cd_base.specs.declared.normal.Normal.{Normal}
@@ -19,7 +19,7 @@ IsExist e = (r : ℕ) × (k : List ℕ) × (e ≡ Exist r k)
 
 -- an existential is in the clause
 abbrev pub HasExist : List Elem → Type 0
-HasExist c = (r : ℕ) × (k : List ℕ) × Member (Exist r k) c
+HasExist c = (r : ℕ) × (k : List ℕ) × OneOf (Exist r k) c
 
 -- no atom is eligible beside an existential
 pub exist_above : (n : Normal) (a : ℕ) (c : List Elem) → HasExist c → Eligible n (Plain a) c → ⊥
@@ -48,7 +48,7 @@ last_exist (e ∷ f ∷ c) (suc i) d a (r, k, inr m) l = last_exist (f ∷ c) i 
 -- in the form of the code: the test of the last element
 pub exist_last : (c es : List Elem) (i : ℕ) (x : Elem) (b : Bool) → es ≡ c → Ascending is_before c → i + 1 ≡ length es → x ≡ get_or es i x → (b ≡ true) ↔ IsExist x → (b ≡ true) ↔ HasExist c
 exist_last c es i x b e a l r t = (
-  λ h. (let w = t.0 h in (w.0, w.1, subst (Member (Exist w.0 w.1)) e (subst (λ z. Member z es) (sym r ∙ w.2) (member_get es i x (omega arith))))),
+  λ h. (let w = t.0 h in (w.0, w.1, subst (OneOf (Exist w.0 w.1)) e (subst (λ z. OneOf z es) (sym r ∙ w.2) (member_get es i x (omega arith))))),
   λ h. t.1 (subst IsExist (sym r) (subst (λ z. IsExist (get_or z i x)) (sym e) (last_exist c i x a h (subst (λ z. i + 1 ≡ length z) e l)))),
 )
 
@@ -58,7 +58,7 @@ last_place [] b e f = absurd (false≢true (sym f ∙ e))
 last_place (x ∷ es) b e f = omega arith
 
 -- an atom that stands at no place isn't in the clause
-pub at_no_place : (es : List Elem) (a : ℕ) (n : ℕ) → length es ≤ n → ((k : ℕ) → k < n → get_or es k (Plain 0) ≡ Plain a → ⊥) → Member (Plain a) es → ⊥
+pub at_no_place : (es : List Elem) (a : ℕ) (n : ℕ) → length es ≤ n → ((k : ℕ) → k < n → get_or es k (Plain 0) ≡ Plain a → ⊥) → OneOf (Plain a) es → ⊥
 at_no_place es a n l h m =
     let w = member_at (Plain a) es m in
     h w.0 (omega (arith, w.1)) (w.2 (Plain 0))

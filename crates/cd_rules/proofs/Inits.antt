@@ -1,7 +1,7 @@
 -- What needs no premise: the plain literals of a key, and the axioms without a left side.
 use Rattle.std.proofs.Common.{◌≡◌, ◌⊎◌, ℕ, ◌<◌, ◌==◌, true, List, [], ◌∷◌, ◌++◌, map, length, get_or, refl, sym, ◌∙◌, ap, subst, inl, inr, eqb-true}
 use Rattle.std.proofs.lemmas.List.{get_or-map, nil_from_length}
-use Rattle.cd_base.specs.Lists.{Member, SameSet}
+use Rattle.cd_base.specs.Lists.{OneOf, SameSet}
 use Rattle.cd_base.specs.declared.normal.Conj.{Conj}
 use Rattle.cd_base.specs.declared.normal.Normal.{Normal}
 use Rattle.cd_base.proofs.Members.{member_at, member_get}
@@ -28,7 +28,7 @@ right_is axioms k x lt = get_or-map (λ (a : Conj). a.right) axioms k x [] lt
 pub free_of_numbers : (n : Normal) (axioms : List Conj) (numbers : List ℕ) (d : List Elem) → axioms ≡ n.n1 → numbers ≡ free_numbers n.n1 → OfOne (IsRightOf axioms) numbers d → IsFree n d
 free_of_numbers n axioms numbers d same is q =
     let k = q.0 in
-    let isin : Member k (free_numbers n.n1) = subst (λ (l : List ℕ). Member k l) is q.1 in
+    let isin : OneOf k (free_numbers n.n1) = subst (λ (l : List ℕ). OneOf k l) is q.1 in
     let lt : k < length n.n1 = found_numbers n.n1 (is_free n.n1) (free_numbers n.n1) refl k isin in
     let test : is_free n.n1 k ≡ true = (filtered_member (is_free n.n1) k _ isin).1 in
     let empty : left_of n.n1 k ≡ [] = nil_from_length (left_of n.n1 k) (eqb-true (length (left_of n.n1 k)) 0 test) in
@@ -43,11 +43,11 @@ numbers_of_free n axioms numbers d same is p =
     let lt : k < length n.n1 = at.1 in
     let empty : left_of n.n1 k ≡ [] = left_is n.n1 k x lt ∙ ap (λ (c : Conj). c.left) (at.2 x) ∙ p.2 in
     let right : right_of axioms k ≡ x.right = ap (λ (l : List Conj). right_of l k) same ∙ right_is n.n1 k x lt ∙ ap (λ (c : Conj). c.right) (at.2 x) in
-    let isin : Member k (free_numbers n.n1) = number_found n.n1 (is_free n.n1) k lt (ap (λ (l : List ℕ). length l == 0) empty) in
-    (k, subst (λ (l : List ℕ). Member k l) (sym is) isin, subst (λ (r : List ℕ). SameSet d (map Plain r)) (sym right) p.3)
+    let isin : OneOf k (free_numbers n.n1) = number_found n.n1 (is_free n.n1) k lt (ap (λ (l : List ℕ). length l == 0) empty) in
+    (k, subst (λ (l : List ℕ). OneOf k l) (sym is) isin, subst (λ (r : List ℕ). SameSet d (map Plain r)) (sym right) p.3)
 
 -- each number is that of an axiom
-pub free_number_in : (n : Normal) (numbers : List ℕ) (k : ℕ) → numbers ≡ free_numbers n.n1 → Member k numbers → k < length n.n1
+pub free_number_in : (n : Normal) (numbers : List ℕ) (k : ℕ) → numbers ≡ free_numbers n.n1 → OneOf k numbers → k < length n.n1
 free_number_in n numbers k is m = found_numbers n.n1 (is_free n.n1) numbers is k m
 
 -- ---- conclusions

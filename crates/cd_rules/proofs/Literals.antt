@@ -2,7 +2,7 @@
 use Rattle.std.proofs.Common.{◌≡◌, ℕ, ◌+◌, ◌*◌, ◌==◌, Bool, true, false, cond, List, [], ◌∷◌, map, sym, ◌∙◌, ap, subst, inl, inr, arith, eqb-true, eq-eqb}
 use Rattle.std.specs.List.{list_any}
 use Rattle.std.proofs.lemmas.Bool.{both_ways}
-use Rattle.cd_base.specs.Lists.{Member, SameSet}
+use Rattle.cd_base.specs.Lists.{OneOf, SameSet}
 use Rattle.cd_base.specs.Keys.{code, plain}
 use Rattle.cd_base.specs.declared.lit.Lit.{Lit}
 use Rattle.cd_base.proofs.Members.{any_by_member, any_member, map_member, member_map, true_or_false}
@@ -24,23 +24,23 @@ plain_code l a e = elim (true_or_false l.negated) [
 -- what its literals add is what Init adds
 pub init_of_lits : (lits : List Lit) (key : List ℕ) (d : List Elem) → map code lits ≡ key → OfOne IsInitBy lits d → IsInit key d
 init_of_lits lits key d codes q =
-    let isin : Member (code q.0) key = subst (λ (k : List ℕ). Member (code q.0) k) codes (member_map code q.0 lits q.1) in
-    (q.0.atom, subst (λ (n : ℕ). Member n key) (code_of_plain q.0 q.2.0) isin, q.2.1)
+    let isin : OneOf (code q.0) key = subst (λ (k : List ℕ). OneOf (code q.0) k) codes (member_map code q.0 lits q.1) in
+    (q.0.atom, subst (λ (n : ℕ). OneOf n key) (code_of_plain q.0 q.2.0) isin, q.2.1)
 
 pub lits_of_init : (lits : List Lit) (key : List ℕ) (d : List Elem) → map code lits ≡ key → IsInit key d → OfOne IsInitBy lits d
 lits_of_init lits key d codes p =
-    let r = map_member code (plain p.0) lits (subst (λ (k : List ℕ). Member (plain p.0) k) (sym codes) p.1) in
+    let r = map_member code (plain p.0) lits (subst (λ (k : List ℕ). OneOf (plain p.0) k) (sym codes) p.1) in
     let same = plain_code r.0 p.0 r.2 in
     (r.0, r.1, (same.0, subst (λ (a : ℕ). SameSet d (Plain a ∷ [])) (sym same.1) p.2))
 
 -- the test of the codes of the literals finds a code of the key
-pub code_found : (lits : List Lit) (key : List ℕ) (n m : ℕ) (b : Bool) → map code lits ≡ key → n ≡ m → b ≡ list_any (λ k. k == n) (map code lits) → b ≡ true → Member m key
+pub code_found : (lits : List Lit) (key : List ℕ) (n m : ℕ) (b : Bool) → map code lits ≡ key → n ≡ m → b ≡ list_any (λ k. k == n) (map code lits) → b ≡ true → OneOf m key
 code_found lits key n m b codes same is t =
     let r = any_member (λ (k : ℕ). k == n) (map code lits) (sym is ∙ t) in
     let e : r.0 ≡ m = eqb-true r.0 n r.2 ∙ same in
-    subst (λ (k : List ℕ). Member m k) codes (subst (λ (k : ℕ). Member k (map code lits)) e r.1)
+    subst (λ (k : List ℕ). OneOf m k) codes (subst (λ (k : ℕ). OneOf k (map code lits)) e r.1)
 
 -- and misses none
-pub code_missed : (lits : List Lit) (key : List ℕ) (n m : ℕ) (b : Bool) → map code lits ≡ key → n ≡ m → b ≡ list_any (λ k. k == n) (map code lits) → b ≡ false → Member m key → ⊥
+pub code_missed : (lits : List Lit) (key : List ℕ) (n m : ℕ) (b : Bool) → map code lits ≡ key → n ≡ m → b ≡ list_any (λ k. k == n) (map code lits) → b ≡ false → OneOf m key → ⊥
 code_missed lits key n m b codes same is f isin =
-    both_ways b f (is ∙ any_by_member (λ (k : ℕ). k == n) (map code lits) m (subst (λ (k : List ℕ). Member m k) (sym codes) isin) (eq-eqb m n (sym same)))
+    both_ways b f (is ∙ any_by_member (λ (k : ℕ). k == n) (map code lits) m (subst (λ (k : List ℕ). OneOf m k) (sym codes) isin) (eq-eqb m n (sym same)))

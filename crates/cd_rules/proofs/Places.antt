@@ -4,7 +4,7 @@ use Rattle.std.proofs.lemmas.Bool.{cases_eq, both_ways}
 use Rattle.std.proofs.lemmas.List.{get_or_read}
 use Rattle.std.specs.List.{remove}
 use Rattle.cd_base.specs.Ascending.{Ascending}
-use Rattle.cd_base.specs.Lists.{Member, SameSet}
+use Rattle.cd_base.specs.Lists.{OneOf, SameSet}
 use Rattle.cd_base.specs.declared.normal.Normal.{Normal}
 use Rattle.cd_base.proofs.Members.{member_at}
 use Rattle.cd_clause.specs.declared.elem.Elem.{Elem}
@@ -108,5 +108,5 @@ module _ (n : Normal) (key : List ℕ) (clauses : List (List Elem)) (live : List
       h a (subst (λ z. Appends Among (IsOfElem n key (IsPicked clauses z) backs deads elem others) Done mid new) (u ∙ v) c)
 
 -- the numbers of the premise and of what is live are those of clauses
-pub choices_below : (live xs ys : List ℕ) (premise count : ℕ) → xs ≡ ys → ys ≡ premise ∷ live → premise < count → ((k : ℕ) → Member k live → k < count) → (k : ℕ) → Member k xs → k < count
-choices_below live xs ys premise count q r l h k m = elim (subst (Member k) (q ∙ r) m) [ inl e ↦ subst (λ w. w < count) (sym e) l | inr w ↦ h k w ]
+pub choices_below : (live xs ys : List ℕ) (premise count : ℕ) → xs ≡ ys → ys ≡ premise ∷ live → premise < count → ((k : ℕ) → OneOf k live → k < count) → (k : ℕ) → OneOf k xs → k < count
+choices_below live xs ys premise count q r l h k m = elim (subst (OneOf k) (q ∙ r) m) [ inl e ↦ subst (λ w. w < count) (sym e) l | inr w ↦ h k w ]

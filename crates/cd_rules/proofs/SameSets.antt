@@ -1,6 +1,6 @@
 -- Lists with the same elements.
 use Rattle.std.proofs.Common.{List, ◌∷◌, ◌++◌, inl, inr}
-use Rattle.cd_base.specs.Lists.{Member, SameSet}
+use Rattle.cd_base.specs.Lists.{OneOf, SameSet}
 use Rattle.cd_base.proofs.Members.{member_left, member_right, member_cases}
 
 pub same_set_refl : {X : Type 0} (xs : List X) → SameSet xs xs
@@ -25,7 +25,7 @@ same_set_append xs ys us vs s t = (
 pub same_set_swap : {X : Type 0} (xs ys zs : List X) → SameSet (xs ++ (ys ++ zs)) (ys ++ (xs ++ zs))
 same_set_swap xs ys zs = (λ x m. swap x xs ys zs m, λ x m. swap x ys xs zs m)
   where
-    swap : {X : Type 0} (x : X) (xs ys zs : List X) → Member x (xs ++ (ys ++ zs)) → Member x (ys ++ (xs ++ zs))
+    swap : {X : Type 0} (x : X) (xs ys zs : List X) → OneOf x (xs ++ (ys ++ zs)) → OneOf x (ys ++ (xs ++ zs))
     swap x xs ys zs m = elim (member_cases x xs (ys ++ zs) m) [
       | inl k ↦ member_right x ys (xs ++ zs) (member_left x xs zs k)
       | inr k ↦ elim (member_cases x ys zs k) [

@@ -7,7 +7,7 @@ use Rattle.std.proofs.lemmas.List.Kept.{Contains-dedup_nat, Contains-from_dedup}
 use Rattle.std.proofs.lemmas.List.Sorted.{Contains-permutation, IsPermutation-sym}
 use Rattle.std.proofs.lemmas.Bool.{and_from, cond-true, lt-ltb, ne_eqb, not_from_false}
 use Rattle.std.proofs.lemmas.List.{get_or_read, nil_from_length}
-use Rattle.cd_base.specs.Lists.{Member}
+use Rattle.cd_base.specs.Lists.{OneOf}
 use Rattle.cd_base.specs.declared.normal.Conj.{Conj}
 use Rattle.cd_base.specs.declared.normal.Normal.{Normal}
 use Rattle.cd_base.proofs.Members.{any_by_member, any_member, member_at, member_cases, member_get, member_left, member_right}
@@ -30,30 +30,30 @@ InChoice n clauses choices k b = Eligible n (Plain b) (get_or clauses (get_or ch
 
 -- k is the number at place i, of an axiom with the atom on the left
 abbrev pub OfFound : List Conj → List ℕ → ℕ → ℕ → ℕ → Type 0
-OfFound axioms found atom i k = (k ≡ get_or found i 0) × Member atom (left_of axioms k)
+OfFound axioms found atom i k = (k ≡ get_or found i 0) × OneOf atom (left_of axioms k)
 
 -- k is filed under the atom at place i, and has `atom` on the left
 abbrev pub OfAtomAt : List Conj → List (List ℕ) → ℕ → List ℕ → ℕ → ℕ → ℕ → Type 0
-OfAtomAt axioms filed number atoms atom i k = Member k (filed_at filed number (get_or atoms i 0)) × Member atom (left_of axioms k)
+OfAtomAt axioms filed number atoms atom i k = OneOf k (filed_at filed number (get_or atoms i 0)) × OneOf atom (left_of axioms k)
 
 -- ---- one of some atoms
 
-pub atom_found : (atom x : ℕ) (atoms : List ℕ) (i : ℕ) → i < length atoms → x ≡ get_or atoms i x → x ≡ atom → Member atom atoms
-atom_found atom x atoms i l r e = subst (λ z. Member z atoms) (sym (get_or_read atoms i x l r 0) ∙ e) (member_get atoms i 0 l)
+pub atom_found : (atom x : ℕ) (atoms : List ℕ) (i : ℕ) → i < length atoms → x ≡ get_or atoms i x → x ≡ atom → OneOf atom atoms
+atom_found atom x atoms i l r e = subst (λ z. OneOf z atoms) (sym (get_or_read atoms i x l r 0) ∙ e) (member_get atoms i 0 l)
 
-pub atom_missed : (atom : ℕ) (atoms : List ℕ) (n : ℕ) → length atoms ≤ n → ((k : ℕ) → k < n → get_or atoms k 0 ≡ atom → ⊥) → Member atom atoms → ⊥
+pub atom_missed : (atom : ℕ) (atoms : List ℕ) (n : ℕ) → length atoms ≤ n → ((k : ℕ) → k < n → get_or atoms k 0 ≡ atom → ⊥) → OneOf atom atoms → ⊥
 atom_missed atom atoms n l h m = let w = member_at atom atoms m in h w.0 (omega (arith, w.1)) (w.2 0)
 
 -- ---- in order
 
-contains_member : (xs : List ℕ) (b : ℕ) → Contains xs b → Member b xs
-contains_member xs b c = subst (λ z. Member z xs) c.2 (member_get xs c.0 b c.1)
+contains_member : (xs : List ℕ) (b : ℕ) → Contains xs b → OneOf b xs
+contains_member xs b c = subst (λ z. OneOf z xs) c.2 (member_get xs c.0 b c.1)
 
-member_contains : (xs : List ℕ) (b : ℕ) → Member b xs → Contains xs b
+member_contains : (xs : List ℕ) (b : ℕ) → OneOf b xs → Contains xs b
 member_contains xs b m = let w = member_at b xs m in (w.0, w.1, w.2 b)
 
 -- what is sorted and left once each has the same members
-pub once_each : (xs ys : List ℕ) → IsPermutation xs ys → (b : ℕ) → Member b (dedup eqb ys) ↔ Member b xs
+pub once_each : (xs ys : List ℕ) → IsPermutation xs ys → (b : ℕ) → OneOf b (dedup eqb ys) ↔ OneOf b xs
 once_each xs ys p b = (
   λ m. contains_member xs b (Contains-permutation ys xs b (IsPermutation-sym xs ys p) (Contains-from_dedup eqb ys b (member_contains (dedup eqb ys) b m))),
   λ m. contains_member (dedup eqb ys) b (Contains-dedup_nat ys b (Contains-permutation xs ys b p (member_contains xs b m))),
@@ -69,7 +69,7 @@ in_a_choice n clauses choices b = (
 )
 
 pub all_at_hand : (n : Normal) (clauses : List (List Elem)) (choices : List ℕ) (atom i : ℕ) (atoms out : List ℕ) → HasGathered (InChoice n clauses choices) i (atom ∷ []) atoms
-    → i ≡ length choices → ((b : ℕ) → Member b out ↔ Member b atoms) → AreAtHand n (IsPicked clauses choices) atom out
+    → i ≡ length choices → ((b : ℕ) → OneOf b out ↔ OneOf b atoms) → AreAtHand n (IsPicked clauses choices) atom out
 all_at_hand n clauses choices atom i atoms out w e same b =
     let g = gather_ends (InChoice n clauses choices) i (length choices) (atom ∷ []) atoms (λ a. (c : List Elem) × IsPicked clauses choices c × Eligible n (Plain a) c) w e (in_a_choice n clauses choices) b in (
       λ m. elim (g.0 ((same b).0 m)) [ inl o ↦ elim o [ inl is ↦ inl is | inr z ↦ absurd z ] | inr p ↦ inr p ],
@@ -78,67 +78,67 @@ all_at_hand n clauses choices atom i atoms out w e same b =
 
 -- ---- numbers of axioms that are filed
 
-pub found_whole : (axioms : List Conj) (found : List ℕ) (atom k : ℕ) → ((i : ℕ) × (i < length found) × OfFound axioms found atom i k) ↔ (Member k found × Member atom (left_of axioms k))
+pub found_whole : (axioms : List Conj) (found : List ℕ) (atom k : ℕ) → ((i : ℕ) × (i < length found) × OfFound axioms found atom i k) ↔ (OneOf k found × OneOf atom (left_of axioms k))
 found_whole axioms found atom k = (
-  λ q. (subst (λ z. Member z found) (sym q.2.0) (member_get found q.0 0 q.1), q.2.1),
+  λ q. (subst (λ z. OneOf z found) (sym q.2.0) (member_get found q.0 0 q.1), q.2.1),
   λ q. (let w = member_at k found q.0 in (w.0, w.1, (sym (w.2 0), q.1))),
 )
 
 pub filed_whole : (axioms : List Conj) (filed : List (List ℕ)) (number : ℕ) (atoms : List ℕ) (atom k : ℕ)
-    → ((i : ℕ) × (i < length atoms) × OfAtomAt axioms filed number atoms atom i k) ↔ ((b : ℕ) × Member b atoms × Member k (filed_at filed number b) × Member atom (left_of axioms k))
+    → ((i : ℕ) × (i < length atoms) × OfAtomAt axioms filed number atoms atom i k) ↔ ((b : ℕ) × OneOf b atoms × OneOf k (filed_at filed number b) × OneOf atom (left_of axioms k))
 filed_whole axioms filed number atoms atom k = (
   λ q. (get_or atoms q.0 0, member_get atoms q.0 0 q.1, q.2.0, q.2.1),
-  λ q. (let w = member_at q.0 atoms q.1 in (w.0, w.1, (subst (λ b. Member k (filed_at filed number b)) (sym (w.2 0)) q.2, q.3))),
+  λ q. (let w = member_at q.0 atoms q.1 in (w.0, w.1, (subst (λ b. OneOf k (filed_at filed number b)) (sym (w.2 0)) q.2, q.3))),
 )
 
 -- ---- candidates
 
 -- what is filed at the place of an atom is filed under it
-in_filed : (filed : List (List ℕ)) (number b k : ℕ) → b < number → Member k (get_or filed b []) → Member k (filed_at filed number b)
-in_filed filed number b k l m = subst (Member k) (sym (cond-true (nat_lt b number) (get_or filed b []) [] (lt-ltb b number l))) m
+in_filed : (filed : List (List ℕ)) (number b k : ℕ) → b < number → OneOf k (get_or filed b []) → OneOf k (filed_at filed number b)
+in_filed filed number b k l m = subst (OneOf k) (sym (cond-true (nat_lt b number) (get_or filed b []) [] (lt-ltb b number l))) m
 
-has_member : (atoms : List ℕ) (a : ℕ) → has a atoms ≡ true → Member a atoms
-has_member atoms a h = let w = any_member (λ (b : ℕ). b == a) atoms h in subst (λ z. Member z atoms) (eqb-true w.0 a w.2) w.1
+has_member : (atoms : List ℕ) (a : ℕ) → has a atoms ≡ true → OneOf a atoms
+has_member atoms a h = let w = any_member (λ (b : ℕ). b == a) atoms h in subst (λ z. OneOf z atoms) (eqb-true w.0 a w.2) w.1
 
 -- an axiom that has an atom on the left is one of them
-number_below : (axioms : List Conj) (k atom : ℕ) → Member atom (left_of axioms k) → k < length axioms
+number_below : (axioms : List Conj) (k atom : ℕ) → OneOf atom (left_of axioms k) → k < length axioms
 number_below [] k atom m = absurd m
 number_below (x ∷ axioms) zero atom m = omega arith
 number_below (x ∷ axioms) (suc k) atom m = let l : k < length axioms = number_below axioms k atom m in omega arith
 
 -- an atom on the left is in range
-left_below : (n : Normal) (k atom : ℕ) → Member atom (left_of n.n1 k) → atom < n.atoms
+left_below : (n : Normal) (k atom : ℕ) → OneOf atom (left_of n.n1 k) → atom < n.atoms
 left_below n k atom m = atom_below n.atoms n.n1 k atom n.n1_within (any_by_member (λ (b : ℕ). b == atom) (left_of n.n1 k) atom m (eq-eqb atom atom refl))
 
 -- an axiom with a left side is filed under the atom that is chosen from it
 filed_there : (n : Normal) (filed : List (List ℕ)) (filing : IsFiling n.n1 n.atoms filed) (k : ℕ) → k < length n.n1 → left_of n.n1 k ≢ []
-    → Member (filing.chosen k) (left_of n.n1 k) × Member k (filed_at filed n.atoms (filing.chosen k))
+    → OneOf (filing.chosen k) (left_of n.n1 k) × OneOf k (filed_at filed n.atoms (filing.chosen k))
 filed_there n filed filing k l some =
     let a : ℕ = filing.chosen k in
-    let stands : Member a (left_of n.n1 k) = has_member (left_of n.n1 k) a (filing.stands k l some) in
+    let stands : OneOf a (left_of n.n1 k) = has_member (left_of n.n1 k) a (filing.stands k l some) in
     let below : a < n.atoms = left_below n k a stands in
     let not_free : is_free n.n1 k ≡ false = ne_eqb (length (left_of n.n1 k)) 0 (λ e. some (nil_from_length (left_of n.n1 k) e)) in (
       stands,
       in_filed filed n.atoms a k below
-          (subst (Member k) (sym (filing.exact.at a below))
+          (subst (OneOf k) (sym (filing.exact.at a below))
           (number_found n.n1 (λ (j : ℕ). is_filed n.n1 filing.chosen a j) k l (and_from (not (is_free n.n1 k)) (a == a) (not_from_false (is_free n.n1 k) not_free) (eq-eqb a a refl)))),
     )
 
 module _ (n : Normal) (Has : List Elem → Type 0) (atom : ℕ) (filed : List (List ℕ)) (atoms numbers : List ℕ) (filing : atom < n.atoms → IsFiling n.n1 n.atoms filed)
     (hand : AreAtHand n Has atom atoms) (with_atom : AreFiledWith n.n1 filed n.atoms atoms atom numbers) where
   -- each atom of a left side is the atom, or one of the others
-  on_left : (left taken : List ℕ) → IsWithoutOne atom left taken → ((b : ℕ) → Member b taken → IsAtHand n Has atom b) → (b : ℕ) → Member b left → IsAtHand n Has atom b
-  on_left left taken w h b m = elim (member_cases b w.0 (atom ∷ w.1) (subst (Member b) w.2 m)) [
-    | inl q ↦ h b (subst (Member b) (sym w.3) (member_left b w.0 w.1 q))
-    | inr q ↦ elim q [ inl e ↦ inl e | inr z ↦ h b (subst (Member b) (sym w.3) (member_right b w.0 w.1 z)) ]
+  on_left : (left taken : List ℕ) → IsWithoutOne atom left taken → ((b : ℕ) → OneOf b taken → IsAtHand n Has atom b) → (b : ℕ) → OneOf b left → IsAtHand n Has atom b
+  on_left left taken w h b m = elim (member_cases b w.0 (atom ∷ w.1) (subst (OneOf b) w.2 m)) [
+    | inl q ↦ h b (subst (OneOf b) (sym w.3) (member_left b w.0 w.1 q))
+    | inr q ↦ elim q [ inl e ↦ inl e | inr z ↦ h b (subst (OneOf b) (sym w.3) (member_right b w.0 w.1 z)) ]
   ]
 
   pub filed_try : AreCandidates n Has atom numbers
   filed_try = record {
     in_range = λ k m. number_below n.n1 k atom ((with_atom k).0 m).3;
     every = λ k l taken w h.
-        let there : Member atom (left_of n.n1 k) = subst (Member atom) (sym w.2) (member_right atom w.0 (atom ∷ w.1) (inl refl)) in
+        let there : OneOf atom (left_of n.n1 k) = subst (OneOf atom) (sym w.2) (member_right atom w.0 (atom ∷ w.1) (inl refl)) in
         let f : IsFiling n.n1 n.atoms filed = filing (left_below n k atom there) in
-        let at = filed_there n filed f k l (λ e. absurd (subst (Member atom) e there)) in
+        let at = filed_there n filed f k l (λ e. absurd (subst (OneOf atom) e there)) in
         (with_atom k).1 (f.chosen k, (hand (f.chosen k)).1 (on_left (left_of n.n1 k) taken w h (f.chosen k) at.0), at.1, there);
   }

@@ -2,7 +2,7 @@
 use Rattle.std.proofs.Common.{◌≡◌, ℕ, zero, suc, ◌<◌, true, List, [], ◌∷◌, length, get_or, refl, sym, ◌∙◌, ap, subst, inl, inr, arith}
 use Rattle.std.proofs.lemmas.Bool.{cond-true, cond-false, both_ways, false_from_ne_true}
 use Rattle.std.specs.List.{remove}
-use Rattle.cd_base.specs.Lists.{Member, SameSet}
+use Rattle.cd_base.specs.Lists.{OneOf, SameSet}
 use Rattle.cd_base.specs.Ascending.{Ascending}
 use Rattle.cd_base.proofs.Members.{member_get}
 use Rattle.cd_clause.specs.Elements.{is_before, same_elem, rest}
@@ -16,7 +16,7 @@ apart : (e f : Elem) → is_before e f ≡ true → e ≡ f → ⊥
 apart e f b q = both_ways (is_before e e) (elems_strict.irreflexive e) (subst (λ w. is_before e w ≡ true) (sym q) b)
 
 -- the rest beside an element that isn't there is the whole list
-rest_of_others : (e : Elem) (c : List Elem) → ((f : Elem) → Member f c → is_before e f ≡ true) → rest e c ≡ c
+rest_of_others : (e : Elem) (c : List Elem) → ((f : Elem) → OneOf f c → is_before e f ≡ true) → rest e c ≡ c
 rest_of_others e [] b = refl
 rest_of_others e (f ∷ c) b =
     cond-false (same_elem e f) (rest e c) (f ∷ rest e c) (false_from_ne_true (same_elem e f) (λ t. apart e f (b f (inl refl)) (same_elem-true e f t)))

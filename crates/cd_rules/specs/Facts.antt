@@ -1,6 +1,6 @@
 -- Facts that come from the contexts of existentials, and conclusions from clauses and facts.
 use Rattle.std.specs.Prelude.{ℕ, List}
-use Rattle.cd_base.specs.Lists.{Member}
+use Rattle.cd_base.specs.Lists.{OneOf}
 use Rattle.cd_base.specs.declared.normal.Normal.{Normal}
 use Rattle.cd_clause.specs.declared.elem.Elem.{Elem}
 use Rattle.cd_clause.specs.Numbers.{picked}
@@ -10,15 +10,15 @@ use Rattle.cd_rules.specs.declared.facts.DeadFact.{DeadFact}
 
 -- the fact is one of these
 abbrev pub IsBack : List BackFact → ℕ → List ℕ → ℕ → Type 0
-IsBack backs r k a = Member (record { role = r; key = k; atom = a }) backs
+IsBack backs r k a = OneOf (record { role = r; key = k; atom = a }) backs
 
 -- the fact is one of these
 abbrev pub IsDead : List DeadFact → ℕ → List ℕ → Type 0
-IsDead deads r k = Member (record { role = r; key = k }) deads
+IsDead deads r k = OneOf (record { role = r; key = k }) deads
 
 -- the clause has one of these numbers
 abbrev pub IsPicked : List (List Elem) → List ℕ → List Elem → Type 0
-IsPicked clauses numbers c = Member c (picked clauses numbers)
+IsPicked clauses numbers c = OneOf c (picked clauses numbers)
 
 -- in the context of `key`, d is the conclusion of a rule from clauses that are had and from these facts
 abbrev pub ConcludesFrom : Normal → List ℕ → (List Elem → Type 0) → List BackFact → List DeadFact → List Elem → Type 0

@@ -1,6 +1,6 @@
 -- What each rule concludes for one eligible element of a premise. `others` is the rest of the premise beside that element.
 use Rattle.std.specs.Prelude.{◌≡◌, ℕ, ◌⊎◌, List, [], ◌∷◌, ◌++◌, map}
-use Rattle.cd_base.specs.Lists.{Member, SameSet}
+use Rattle.cd_base.specs.Lists.{OneOf, SameSet}
 use Rattle.cd_base.specs.Keys.{plain, negated, key_with}
 use Rattle.cd_base.specs.Normal.{Under}
 use Rattle.cd_base.specs.declared.normal.Normal.{Normal}
@@ -16,19 +16,19 @@ use Rattle.cd_rules.specs.Facts.{IsBack, IsDead}
 
 -- Init, for the atoms of a key
 abbrev pub IsInit : List ℕ → List Elem → Type 0
-IsInit key d = (a : ℕ) × Member (plain a) key × SameSet d (Plain a ∷ [])
+IsInit key d = (a : ℕ) × OneOf (plain a) key × SameSet d (Plain a ∷ [])
 
 -- Con, for an axiom without a left side
 abbrev pub IsFree : Normal → List Elem → Type 0
-IsFree n d = (x : Conj) × Member x n.n1 × (x.left ≡ []) × SameSet d (map Plain x.right)
+IsFree n d = (x : Conj) × OneOf x n.n1 × (x.left ≡ []) × SameSet d (map Plain x.right)
 
 -- Neg, for atom a
 abbrev pub IsNeg : List ℕ → ℕ → List Elem → List Elem → Type 0
-IsNeg key a others d = Member (negated a) key × SameSet d others
+IsNeg key a others d = OneOf (negated a) key × SameSet d others
 
 -- Ex, for atom a
 abbrev pub IsEx : Normal → ℕ → List Elem → List Elem → Type 0
-IsEx n a others d = (t : Triple) × Member t n.n2 × (t.atom ≡ a) × SameSet d (Exist t.role (plain t.other ∷ []) ∷ others)
+IsEx n a others d = (t : Triple) × OneOf t n.n2 × (t.atom ≡ a) × SameSet d (Exist t.role (plain t.other ∷ []) ∷ others)
 
 -- a left side with one of its occurrences of an atom taken out
 abbrev pub IsWithoutOne : ℕ → List ℕ → List ℕ → Type 0
@@ -41,24 +41,24 @@ IsConBy n Has x a others d =
 
 -- Con, for atom a by any axiom
 abbrev pub IsCon : Normal → (List Elem → Type 0) → ℕ → List Elem → List Elem → Type 0
-IsCon n Has a others d = (x : Conj) × Member x n.n1 × IsConBy n Has x a others d
+IsCon n Has a others d = (x : Conj) × OneOf x n.n1 × IsConBy n Has x a others d
 
 -- All, for atom a with the existentials of clauses that are had
 abbrev pub IsAllOfAtom : Normal → (List Elem → Type 0) → ℕ → List Elem → List Elem → Type 0
 IsAllOfAtom n Has a others d =
-    (t : Triple) × Member t n.n4 × (t.atom ≡ a) × ((c : List Elem) × Has c × ((r : ℕ) × (k : List ℕ) × Eligible n (Exist r k) c × Under n.n5 r t.role
+    (t : Triple) × OneOf t n.n4 × (t.atom ≡ a) × ((c : List Elem) × Has c × ((r : ℕ) × (k : List ℕ) × Eligible n (Exist r k) c × Under n.n5 r t.role
     × SameSet d (Exist r (key_with (plain t.other) k) ∷ (rest (Exist r k) c ++ others))))
 
 -- All, for an existential with the atoms of clauses that are had
 abbrev pub IsAllOfExist : Normal → (List Elem → Type 0) → ℕ → List ℕ → List Elem → List Elem → Type 0
 IsAllOfExist n Has r k others d =
-    (t : Triple) × Member t n.n4 × Under n.n5 r t.role × ((b : List Elem) × Has b × Eligible n (Plain t.atom) b
+    (t : Triple) × OneOf t n.n4 × Under n.n5 r t.role × ((b : List Elem) × Has b × Eligible n (Plain t.atom) b
     × SameSet d (Exist r (key_with (plain t.other) k) ∷ (others ++ rest (Plain t.atom) b)))
 
 -- Back, for an existential and an atom of its key's context
 abbrev pub IsBackOf : Normal → ℕ → List ℕ → ℕ → List Elem → List Elem → Type 0
 IsBackOf n r k a others d =
-    (t : Triple) × Member t n.n3 × (t.atom ≡ a) × Under n.n5 r t.role × SameSet d (Plain t.other ∷ Exist r (key_with (negated a) k) ∷ others)
+    (t : Triple) × OneOf t n.n3 × (t.atom ≡ a) × Under n.n5 r t.role × SameSet d (Plain t.other ∷ Exist r (key_with (negated a) k) ∷ others)
 
 -- Back, for an existential and these facts
 abbrev pub IsBackFrom : Normal → List BackFact → ℕ → List ℕ → List Elem → List Elem → Type 0

@@ -1,6 +1,6 @@
 -- What the rules Back, Dead and All conclude by one axiom or fact, or with one element or clause: the steps of their walks.
 use Rattle.std.specs.Prelude.{◌≡◌, ℕ, ◌<◌, List, ◌∷◌, ◌++◌, length, remove, slice_index_or}
-use Rattle.cd_base.specs.Lists.{Member, SameSet}
+use Rattle.cd_base.specs.Lists.{OneOf, SameSet}
 use Rattle.cd_base.specs.Keys.{plain, negated, key_with}
 use Rattle.cd_base.specs.Normal.{Under}
 use Rattle.cd_base.specs.declared.normal.Normal.{Normal}
@@ -14,7 +14,7 @@ use Rattle.cd_rules.specs.Steps.{IsBackOf}
 
 -- d is a conclusion by one of these
 abbrev pub ByOne : {X : Type 0} → (X → List Elem → Type 0) → List X → List Elem → Type 0
-ByOne {X} Q items d = (x : X) × Member x items × Q x d
+ByOne {X} Q items d = (x : X) × OneOf x items × Q x d
 
 -- the element stands at this place of the clause, and what is left without that place is the rest beside the element
 pub record IsPlaceOf (e : Elem) (c : List Elem) (i : ℕ) : Type 0 where
@@ -53,7 +53,7 @@ IsAllWithExists n triples others c d = ByOne (IsAllAtExist n triples others c) c
 
 -- All, for an existential with one element of a clause, if that is an eligible atom
 abbrev pub IsAllAtAtom : Normal → ℕ → List ℕ → List Elem → List Elem → Elem → List Elem → Type 0
-IsAllAtAtom n r k others c (Plain a) d = Eligible n (Plain a) c × ((t : Triple) × Member t n.n4 × (t.atom ≡ a) × IsAllBy n r k others (rest (Plain a) c) t d)
+IsAllAtAtom n r k others c (Plain a) d = Eligible n (Plain a) c × ((t : Triple) × OneOf t n.n4 × (t.atom ≡ a) × IsAllBy n r k others (rest (Plain a) c) t d)
 IsAllAtAtom n r k others c (Exist s l) d = ⊥
 
 -- All, for an existential with the elements of a clause

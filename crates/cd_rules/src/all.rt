@@ -1,7 +1,7 @@
 //! The rule All.
 ghost use Rattle.std.specs.Prelude.{◌<◌, ◌∷◌, ◌++◌, ℕ, length, slice_index_or, IfOk, IsOk};
 ghost use Rattle.cd_base.specs.Keys.{key_with, plain};
-ghost use Rattle.cd_base.specs.Lists.{Member, SameSet};
+ghost use Rattle.cd_base.specs.Lists.{OneOf, SameSet};
 ghost use Rattle.cd_clause.specs.declared.elem.Elem.TheVariants.{Plain, Exist};
 ghost use Rattle.cd_base.specs.Appends.{Appends};
 ghost use Rattle.cd_rules.specs.Among.{Among};
@@ -30,7 +30,7 @@ pub(crate) fn all_of_atom(
     others: &Clause,
     out: &mut Vec<Clause>,
 ) -> Result<(), Memory>
-    requires choices { (k : ℕ) → Member k choices.now → k < length clauses.now }
+    requires choices { (k : ℕ) → OneOf k choices.now → k < length clauses.now }
     ensures { Appends Among (IsAllOfAtom index.now.normal (IsPicked clauses.now choices.now) atom others.now) (IsOk result) out.old.items out.new.items }
 {
     let triples = alls(index, atom);
@@ -94,7 +94,7 @@ pub(crate) fn all_of_exist(
     others: &Clause,
     out: &mut Vec<Clause>,
 ) -> Result<(), Memory>
-    requires choices { (k : ℕ) → Member k choices.now → k < length clauses.now }
+    requires choices { (k : ℕ) → OneOf k choices.now → k < length clauses.now }
     ensures { Appends Among (IsAllOfExist index.now.normal (IsPicked clauses.now choices.now) role key.now others.now) (IsOk result) out.old.items out.new.items }
 {
     for number in choices {

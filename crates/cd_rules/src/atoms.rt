@@ -1,6 +1,6 @@
 //! Clauses by number, and atoms that are eligible in them.
 ghost use Rattle.std.specs.Prelude.{◌≡◌, ◌<◌, ◌⊎◌, ◌↔◌, ◌++◌, ℕ, List, [], length, slice_index_or, true, IfOk, OnOk, MatchOption};
-ghost use Rattle.cd_base.specs.Lists.{Member, SameSet};
+ghost use Rattle.cd_base.specs.Lists.{OneOf, SameSet};
 ghost use Rattle.cd_clause.specs.Elements.{Eligible, rest};
 ghost use Rattle.cd_clause.specs.declared.elem.Elem.TheVariants.{Plain, Exist};
 
@@ -9,7 +9,7 @@ use cd_clause::{Clause, Elem, eligible};
 
 /// The clause whose number is the choice at place `i`. Constant time.
 pub(crate) fn clause_at<'a>(clauses: &'a [Clause], choices: &[usize], i: usize) -> &'a Clause
-    requires choices { (k : ℕ) → Member k choices.now → k < length clauses.now }
+    requires choices { (k : ℕ) → OneOf k choices.now → k < length clauses.now }
     requires i { i < length choices.now }
     ensures { result.now ≡ slice_index_or clauses.now (slice_index_or choices.now i 0) [] }
 {
@@ -51,7 +51,7 @@ pub(crate) fn push_eligible(
     normal: &Normal,
     atoms: &mut Vec<u32>,
 ) -> Result<(), Memory>
-    ensures { OnOk result ((b : ℕ) → Member b atoms.new.items ↔ (Member b atoms.old.items ⊎ Eligible normal.now (Plain b) clause.now)) }
+    ensures { OnOk result ((b : ℕ) → OneOf b atoms.new.items ↔ (OneOf b atoms.old.items ⊎ Eligible normal.now (Plain b) clause.now)) }
 {
     if has_existential(clause) {
         return Ok(());
@@ -88,7 +88,7 @@ fn eligible_at(clause: &Clause, i: usize, normal: &Normal) -> Option<Atom>
 
 /// Whether an existential is in the clause. Constant time, since existentials stand last.
 fn has_existential(clause: &Clause) -> bool
-    ensures { (result ≡ true) ↔ ((r : ℕ) × (k : List ℕ) × Member (Exist r k) clause.now) }
+    ensures { (result ≡ true) ↔ ((r : ℕ) × (k : List ℕ) × OneOf (Exist r k) clause.now) }
 {
     let elems = clause.elems();
     !elems.is_empty() && is_existential(&elems[elems.len() - 1])
@@ -106,7 +106,7 @@ fn is_existential(elem: &Elem) -> bool
 
 /// The place at which the atom stands. Linear in the elements.
 fn place_of(elems: &[Elem], atom: Atom) -> Option<usize>
-    ensures { MatchOption result (Member (Plain atom) elems.now → ⊥) (λ i. (i < length elems.now) × (slice_index_or elems.now i (Plain 0) ≡ Plain atom)) }
+    ensures { MatchOption result (OneOf (Plain atom) elems.now → ⊥) (λ i. (i < length elems.now) × (slice_index_or elems.now i (Plain 0) ≡ Plain atom)) }
 {
     'places: for i in 0..elems.len() {
         if is_atom(&elems[i], atom) {

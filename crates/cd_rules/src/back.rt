@@ -1,7 +1,7 @@
 //! The rule Back.
 ghost use Rattle.std.specs.Prelude.{◌<◌, ◌∷◌, ℕ, length, IfOk, IsOk, List};
 ghost use Rattle.cd_base.specs.Keys.{key_with, negated};
-ghost use Rattle.cd_base.specs.Lists.{Member, SameSet};
+ghost use Rattle.cd_base.specs.Lists.{OneOf, SameSet};
 ghost use Rattle.cd_clause.specs.declared.elem.Elem.TheVariants.{Plain, Exist};
 ghost use Rattle.cd_base.specs.Appends.{Appends};
 ghost use Rattle.cd_rules.specs.Among.{Among};
@@ -121,7 +121,7 @@ pub fn on_back(
     fact: &BackFact,
     out: &mut Vec<Clause>,
 ) -> Result<(), Memory>
-    requires live { (k : ℕ) → Member k live.now → k < length clauses.now }
+    requires live { (k : ℕ) → OneOf k live.now → k < length clauses.now }
     ensures { (key : List ℕ) → Appends Among (FromBack index.now.normal key clauses.now live.now fact.now) (IsOk result) out.old.items out.new.items }
 {
     for number in live {

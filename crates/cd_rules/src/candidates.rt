@@ -1,7 +1,7 @@
 //! Which axioms the rule Con tries for an atom.
 ghost use Rattle.std.specs.Prelude.{◌≡◌, ◌<◌, ◌⊎◌, ◌↔◌, ℕ, length, true, IfOk, IfSome, OnOk};
 ghost use Rattle.std.specs.List.Sorted.{IsStrictlyIncreasing};
-ghost use Rattle.cd_base.specs.Lists.{Member};
+ghost use Rattle.cd_base.specs.Lists.{OneOf};
 ghost use Rattle.cd_index.specs.Index.{left_of};
 ghost use Rattle.cd_rules.specs.Candidates.{AreAtHand, AreCandidates, AreFiledWith, filed_count};
 ghost use Rattle.cd_rules.specs.Facts.{IsPicked};
@@ -29,7 +29,7 @@ pub(crate) fn candidates(
     atom: Atom,
     limit: usize,
 ) -> Result<Option<Vec<usize>>, Memory>
-    requires choices { (k : ℕ) → Member k choices.now → k < length clauses.now }
+    requires choices { (k : ℕ) → OneOf k choices.now → k < length clauses.now }
     ensures { IfOk result (λ found. IfSome found (λ numbers. AreCandidates index.now.normal (IsPicked clauses.now choices.now) atom numbers.items)) }
 {
     if limit <= FEW || filed(index, atom).len() >= limit {
@@ -53,7 +53,7 @@ fn atoms_at_hand(
     choices: &[usize],
     atom: Atom,
 ) -> Result<Vec<u32>, Memory>
-    requires choices { (k : ℕ) → Member k choices.now → k < length clauses.now }
+    requires choices { (k : ℕ) → OneOf k choices.now → k < length clauses.now }
     ensures exact { IfOk result (λ atoms. AreAtHand normal.now (IsPicked clauses.now choices.now) atom atoms.items) }
     ensures ascends { IfOk result (λ atoms. IsStrictlyIncreasing atoms.items) }
 {
@@ -68,7 +68,7 @@ fn atoms_at_hand(
 
 /// Puts the numbers in order, each once. `n log n`.
 fn put_in_order(numbers: &mut Vec<u32>)
-    ensures same { (b : ℕ) → Member b numbers.new.items ↔ Member b numbers.old.items }
+    ensures same { (b : ℕ) → OneOf b numbers.new.items ↔ OneOf b numbers.old.items }
     ensures ascends { IsStrictlyIncreasing numbers.new.items }
 {
     numbers.sort_unstable();
@@ -110,7 +110,7 @@ fn push_filed(
     atom: Atom,
     numbers: &mut Vec<usize>,
 ) -> Result<(), Memory>
-    ensures { OnOk result ((k : ℕ) → Member k numbers.new.items ↔ (Member k numbers.old.items ⊎ (Member k (filed_at index.now.filed index.now.normal.atoms under) × Member atom (left_of index.now.normal.n1 k)))) }
+    ensures { OnOk result ((k : ℕ) → OneOf k numbers.new.items ↔ (OneOf k numbers.old.items ⊎ (OneOf k (filed_at index.now.filed index.now.normal.atoms under) × OneOf atom (left_of index.now.normal.n1 k)))) }
 {
     let axioms = index.normal().n1.items();
     let found = filed(index, under);
@@ -125,7 +125,7 @@ fn push_filed(
 /// Whether the atom is on the left of the axiom. Linear in the left side.
 fn has_on_left(axioms: &[Conj], number: usize, atom: Atom) -> bool
     requires { number < length axioms.now }
-    ensures { (result ≡ true) ↔ Member atom (left_of axioms.now number) }
+    ensures { (result ≡ true) ↔ OneOf atom (left_of axioms.now number) }
 {
     let conj = &axioms[number];
     has_atom(conj.left.items(), atom)
@@ -133,7 +133,7 @@ fn has_on_left(axioms: &[Conj], number: usize, atom: Atom) -> bool
 
 /// Whether the atom is one of these. Linear in them.
 fn has_atom(atoms: &[Atom], atom: Atom) -> bool
-    ensures { (result ≡ true) ↔ Member atom atoms.now }
+    ensures { (result ≡ true) ↔ OneOf atom atoms.now }
 {
     'atoms: for i in 0..atoms.len() {
         let at = atoms[i];

@@ -1,6 +1,6 @@
 //! The rule Con.
 ghost use Rattle.std.specs.Prelude.{◌≡◌, ◌<◌, ◌++◌, ℕ, List, length, map, remove, IsOk, IfOk, MatchOption};
-ghost use Rattle.cd_base.specs.Lists.{Member, SameSet};
+ghost use Rattle.cd_base.specs.Lists.{OneOf, SameSet};
 ghost use Rattle.cd_clause.specs.Elements.{Eligible, rest};
 ghost use Rattle.cd_clause.specs.Rules.{Rests};
 ghost use Rattle.cd_clause.specs.declared.elem.Elem.{Elem};
@@ -41,7 +41,7 @@ pub(crate) fn con(
     others: &Clause,
     out: &mut Vec<Clause>,
 ) -> Result<(), Memory>
-    requires choices { (k : ℕ) → Member k choices.now → k < length clauses.now }
+    requires choices { (k : ℕ) → OneOf k choices.now → k < length clauses.now }
     ensures { Appends Among (IsCon index.now.normal (IsPicked clauses.now choices.now) atom others.now) (IsOk result) out.old.items out.new.items }
 {
     let all = with_left(index, atom);
@@ -73,7 +73,7 @@ fn con_by_each(
     out: &mut Vec<Clause>,
 ) -> Result<(), Memory>
     requires numbers { AreCandidates index.now.normal (IsPicked clauses.now choices.now) atom numbers.now }
-    requires choices { (k : ℕ) → Member k choices.now → k < length clauses.now }
+    requires choices { (k : ℕ) → OneOf k choices.now → k < length clauses.now }
     ensures { Appends Among (IsCon index.now.normal (IsPicked clauses.now choices.now) atom others.now) (IsOk result) out.old.items out.new.items }
 {
     let normal = index.normal();
@@ -104,7 +104,7 @@ fn con_by(
     others: &Clause,
     out: &mut Vec<Clause>,
 ) -> Result<(), Memory>
-    requires choices { (k : ℕ) → Member k choices.now → k < length clauses.now }
+    requires choices { (k : ℕ) → OneOf k choices.now → k < length clauses.now }
     ensures { Appends Among (IsConBy normal.now (IsPicked clauses.now choices.now) conj.now atom others.now) (IsOk result) out.old.items out.new.items }
 {
     let left = conj.left.items();
@@ -142,7 +142,7 @@ fn con_from(
     base: &Clause,
     out: &mut Vec<Clause>,
 ) -> Result<(), Memory>
-    requires choices { (k : ℕ) → Member k choices.now → k < length clauses.now }
+    requires choices { (k : ℕ) → OneOf k choices.now → k < length clauses.now }
     ensures { Appends Among (λ d. (m : List Elem) × Rests normal.now (IsPicked clauses.now choices.now) taken.now m × SameSet d ((base.now ++ m) ++ map Plain right.now)) (IsOk result) out.old.items out.new.items }
 {
     match taken {

@@ -1,6 +1,6 @@
 //! The rule Dead.
 ghost use Rattle.std.specs.Prelude.{◌≡◌, ◌<◌, ◌↔◌, ℕ, length, true, IsOk, List};
-ghost use Rattle.cd_base.specs.Lists.{Member};
+ghost use Rattle.cd_base.specs.Lists.{OneOf};
 ghost use Rattle.cd_base.specs.Appends.{Appends};
 ghost use Rattle.cd_rules.specs.Among.{Among};
 ghost use Rattle.cd_rules.specs.Facts.{IsDead};
@@ -58,7 +58,7 @@ pub fn on_dead(
     fact: &DeadFact,
     out: &mut Vec<Clause>,
 ) -> Result<(), Memory>
-    requires live { (k : ℕ) → Member k live.now → k < length clauses.now }
+    requires live { (k : ℕ) → OneOf k live.now → k < length clauses.now }
     ensures { (key : List ℕ) → Appends Among (FromDead index.now.normal key clauses.now live.now fact.now) (IsOk result) out.old.items out.new.items }
 {
     for number in live {

@@ -1,6 +1,6 @@
 //! One existential in a clause.
 ghost use Rattle.std.specs.Prelude.{◌≡◌, ◌↔◌, true, IfOk, MatchOption};
-ghost use Rattle.cd_base.specs.Lists.{Member, SameSet};
+ghost use Rattle.cd_base.specs.Lists.{OneOf, SameSet};
 ghost use Rattle.cd_clause.specs.Elements.{Eligible, rest};
 ghost use Rattle.cd_clause.specs.declared.elem.Elem.TheVariants.{Exist};
 ghost use Rattle.cd_rules.specs.Walks.{IsPlaceOf};
@@ -31,7 +31,7 @@ pub(crate) fn rest_beside(
 /// The place of this existential in the clause, if it is there. It stands at no other place. Linear in the clause and the literals of
 /// its keys.
 fn place_of(clause: &Clause, role: Role, key: &Key) -> Option<usize>
-    ensures { MatchOption result (Member (Exist role key.now) clause.now → ⊥) (IsPlaceOf (Exist role key.now) clause.now) }
+    ensures { MatchOption result (OneOf (Exist role key.now) clause.now → ⊥) (IsPlaceOf (Exist role key.now) clause.now) }
 {
     let elems = clause.elems();
     for i in 0..elems.len() {

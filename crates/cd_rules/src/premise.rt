@@ -1,6 +1,6 @@
 //! All rules for one premise.
 ghost use Rattle.std.specs.Prelude.{◌≡◌, ◌<◌, ◌∷◌, ℕ, length, IfOk, IsOk};
-ghost use Rattle.cd_base.specs.Lists.{Member};
+ghost use Rattle.cd_base.specs.Lists.{OneOf};
 ghost use Rattle.cd_base.specs.Appends.{Appends};
 ghost use Rattle.cd_rules.specs.Among.{Among};
 ghost use Rattle.cd_rules.specs.Facts.{IsPicked};
@@ -36,7 +36,7 @@ pub fn on_clause(
     deads: &[DeadFact],
     out: &mut Vec<Clause>,
 ) -> Result<(), Memory>
-    requires live { (k : ℕ) → Member k live.now → k < length clauses.now }
+    requires live { (k : ℕ) → OneOf k live.now → k < length clauses.now }
     requires premise { premise < length clauses.now }
     ensures { Appends Among (FromClause index.now.normal key.now clauses.now live.now premise backs.now deads.now) (IsOk result) out.old.items out.new.items }
 {
@@ -76,7 +76,7 @@ fn on_elem(
     others: &Clause,
     out: &mut Vec<Clause>,
 ) -> Result<(), Memory>
-    requires choices { (k : ℕ) → Member k choices.now → k < length clauses.now }
+    requires choices { (k : ℕ) → OneOf k choices.now → k < length clauses.now }
     ensures { Appends Among (IsOfElem index.now.normal key.now (IsPicked clauses.now choices.now) backs.now deads.now elem.now others.now) (IsOk result) out.old.items out.new.items }
 {
     match elem {
@@ -98,7 +98,7 @@ fn on_atom(
     others: &Clause,
     out: &mut Vec<Clause>,
 ) -> Result<(), Memory>
-    requires choices { (k : ℕ) → Member k choices.now → k < length clauses.now }
+    requires choices { (k : ℕ) → OneOf k choices.now → k < length clauses.now }
     ensures { Appends Among (IsOfAtom index.now.normal key.now (IsPicked clauses.now choices.now) atom others.now) (IsOk result) out.old.items out.new.items }
 {
     neg(key, atom, others, out)?;
@@ -119,7 +119,7 @@ fn on_exist(
     others: &Clause,
     out: &mut Vec<Clause>,
 ) -> Result<(), Memory>
-    requires choices { (k : ℕ) → Member k choices.now → k < length clauses.now }
+    requires choices { (k : ℕ) → OneOf k choices.now → k < length clauses.now }
     ensures { Appends Among (IsOfExist index.now.normal (IsPicked clauses.now choices.now) backs.now deads.now role key.now others.now) (IsOk result) out.old.items out.new.items }
 {
     back_from(index, backs, role, key, others, out)?;

@@ -1,7 +1,7 @@
 -- What a core of one cell keeps from its start message to the cells that it ends with.
 use Rattle.std.proofs.Common.{◌≡◌, ℕ, List, [], ◌∷◌, Bool, true, refl, sym, ap, subst, arith, inl, inr}
 use Rattle.cd_base.specs.Keys.{plain, is_named}
-use Rattle.cd_base.specs.Lists.{Member}
+use Rattle.cd_base.specs.Lists.{OneOf}
 use Rattle.cd_base.specs.declared.normal.Normal.{Normal}
 use Rattle.cd_base.proofs.Members.{member_left}
 use Rattle.cd_actor.specs.Cells.{At, IsLawful, AreAllLawful, Had}
@@ -20,7 +20,7 @@ use Rattle.cd_saturation.proofs.Runs.{of_family}
 module _ (n : Normal) (a : ℕ) (named : is_named n a ≡ true) (cells : List CellState) (new : AreNew n 1 cells) (start : List (ℕ × Note)) (is : start ≡ start_of 1 a ∷ []) where
   -- the start message of a named class is lawful for a new cell
   pub one_lawful : AreAllLawful meaning cells start
-  one_lawful x m = elim (subst (λ s. Member x s) is m) [
+  one_lawful x m = elim (subst (λ s. OneOf x s) is m) [
     | inl q ↦ subst (λ z. IsLawful meaning cells z) (sym q) (
       omega (arith, new.each),
       λ c at. subst (λ (c : CellState). IsLawfulNote c.normal c.cells (place_for 1 a) (record { key = plain a ∷ []; fact = Start })) (sym (new.are (place_for 1 a) c at)) record {
@@ -39,7 +39,7 @@ module _ (n : Normal) (a : ℕ) (named : is_named n a ≡ true) (cells : List Ce
     normal = n;
     named = named;
     family = subst (λ cs. (i : ℕ) (c : CellState) → At cs i c → meaning.family c ≡ (1, n)) (sym b.cells_are) (of_family n 1 cells new);
-    start = inr (subst (λ q. Member (start_of 1 a) q) (sym b.pending) (member_left (start_of 1 a) start b.more (subst (λ s. Member (start_of 1 a) s) (sym is) (inl refl))));
+    start = inr (subst (λ q. OneOf (start_of 1 a) q) (sym b.pending) (member_left (start_of 1 a) start b.more (subst (λ s. OneOf (start_of 1 a) s) (sym is) (inl refl))));
   }
 
 -- what keeps all and the family stays under way

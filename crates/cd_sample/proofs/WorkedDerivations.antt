@@ -2,7 +2,7 @@
 use Rattle.std.proofs.Common.{◌≡◌, ℕ, true, List, [], ◌∷◌, refl, sym, subst, inl, inr}
 use Rattle.std.proofs.lemmas.Bool.{cond_both}
 use Rattle.cd_base.specs.Keys.{plain, negated, is_named}
-use Rattle.cd_base.specs.Lists.{Member}
+use Rattle.cd_base.specs.Lists.{OneOf}
 use Rattle.cd_base.specs.Normal.{same}
 use Rattle.cd_base.specs.declared.normal.Normal.{Normal}
 use Rattle.cd_clause.specs.declared.elem.Elem.{Elem}
@@ -35,10 +35,10 @@ module _ (n : Normal) where
     ];
   }
 
-  in_key : (a : ℕ) (key : List ℕ) → Member (plain a) key → Derived n key (Plain a ∷ [])
+  in_key : (a : ℕ) (key : List ℕ) → OneOf (plain a) key → Derived n key (Plain a ∷ [])
   in_key a key m = derived_closed n key (Plain a ∷ []) (by_init a m (λ x u. u, λ x u. u))
 
-  module _ (edge : Member (record { atom = 2; role = 0; other = 4 }) n.n2) where
+  module _ (edge : OneOf (record { atom = 2; role = 0; other = 4 }) n.n2) where
     edge_to_four : Derived n (plain 2 ∷ []) (Exist 0 (plain 4 ∷ []) ∷ [])
     edge_to_four = derived_closed n (plain 2 ∷ []) (Exist 0 (plain 4 ∷ []) ∷ [])
         (by_ex (record { atom = 2; role = 0; other = 4 }) (Plain 2 ∷ []) edge (in_key 2 (plain 2 ∷ []) (inl refl)) (alone (Plain 2)) (λ x u. u, λ x u. u))
@@ -57,7 +57,7 @@ module _ (n : Normal) where
     pub back_justified : (key k : List ℕ) → key ≡ plain 2 ∷ [] → k ≡ plain 4 ∷ [] → Reachable n key → Justified n key (Back 0 k 4)
     back_justified key k p q reachable = (reachable, edge_of_two key k p q, subst (λ (y : List ℕ). HasDerived n y (Plain 4)) (sym q) four_in_four)
 
-    module _ (back : Member (record { atom = 4; role = 0; other = 5 }) n.n3) where
+    module _ (back : OneOf (record { atom = 4; role = 0; other = 5 }) n.n3) where
       five_or_edge : Derived n (plain 2 ∷ []) (Plain 5 ∷ Exist 0 (plain 4 ∷ negated 4 ∷ []) ∷ [])
       five_or_edge = derived_closed n (plain 2 ∷ []) (Plain 5 ∷ Exist 0 (plain 4 ∷ negated 4 ∷ []) ∷ [])
           (by_back (record { atom = 4; role = 0; other = 5 }) (Exist 0 (plain 4 ∷ []) ∷ []) 0 (plain 4 ∷ []) back edge_to_four (alone (Exist 0 (plain 4 ∷ []))) four_in_four same

@@ -2,7 +2,7 @@
 //! What has many parts is let go of by `drop`, which the prover takes as one step.
 ghost use Rattle.std.specs.Prelude.{◌≡◌, [], ◌∷◌, true, IsTrue};
 ghost use Rattle.cd_base.specs.Keys.{is_named, plain};
-ghost use Rattle.cd_base.specs.Lists.{Member};
+ghost use Rattle.cd_base.specs.Lists.{OneOf};
 ghost use Rattle.cd_cell.specs.Cells.{IsWhole, IsSound, IsLawfulNote};
 ghost use Rattle.cd_context.specs.declared.facts.Fact.TheVariants.{Link};
 
@@ -101,7 +101,7 @@ fn what_a_cell_owes_is_listed_once(rt: HostRuntime) {
 fn linked<'a>(rt: &impl Abort, alloc: Global, index: &'a Index, out: &mut Outbox<Note>) -> Cell<'a>
     requires two { is_named index.now.normal 2 ≡ true }
     requires four { is_named index.now.normal 4 ≡ true }
-    requires edge { Member (record { atom = 2; role = 0; other = 4 }) index.now.normal.n2 }
+    requires edge { OneOf (record { atom = 2; role = 0; other = 4 }) index.now.normal.n2 }
 {
     let mut cell = Cell::new(alloc, 0, 1, index);
     cell.deliver(alloc, the_link(alloc), out)

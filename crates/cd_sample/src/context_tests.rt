@@ -2,7 +2,7 @@
 //! What has many parts is let go of by `drop`, which the prover takes as one step.
 ghost use Rattle.std.specs.Prelude.{◌≡◌, ◌∷◌, [], true};
 ghost use Rattle.cd_base.specs.Keys.{is_named, plain, negated};
-ghost use Rattle.cd_base.specs.Lists.{Member};
+ghost use Rattle.cd_base.specs.Lists.{OneOf};
 ghost use Rattle.cd_context.specs.Justified.{IsContext, ClosedLocally};
 
 use crate::sample::{hand_made, universal_index};
@@ -157,7 +157,7 @@ fn tell_back(
     context: &mut Context,
     out: &mut Vec<Note>,
 )
-    requires edge { Member (record { atom = 2; role = 0; other = 4 }) index.now.normal.n2 }
+    requires edge { OneOf (record { atom = 2; role = 0; other = 4 }) index.now.normal.n2 }
     requires key { context.old.key ≡ plain 2 ∷ [] }
     requires context { IsContext index.now.normal context.old }
     requires closed { ClosedLocally index.now.normal context.old }
@@ -178,8 +178,8 @@ fn tell_dead(
     context: &mut Context,
     out: &mut Vec<Note>,
 )
-    requires edge { Member (record { atom = 2; role = 0; other = 4 }) index.now.normal.n2 }
-    requires back { Member (record { atom = 4; role = 0; other = 5 }) index.now.normal.n3 }
+    requires edge { OneOf (record { atom = 2; role = 0; other = 4 }) index.now.normal.n2 }
+    requires back { OneOf (record { atom = 4; role = 0; other = 5 }) index.now.normal.n3 }
     requires key { context.old.key ≡ plain 2 ∷ [] }
     requires context { IsContext index.now.normal context.old }
     requires closed { ClosedLocally index.now.normal context.old }
@@ -192,7 +192,7 @@ fn tell_dead(
 
 /// Whether the back gives a clause, and the link to its existential alone.
 fn tells_of_the_back(rt: &impl Abort, alloc: Global, index: &Index, context: &mut Context) -> bool
-    requires edge { Member (record { atom = 2; role = 0; other = 4 }) index.now.normal.n2 }
+    requires edge { OneOf (record { atom = 2; role = 0; other = 4 }) index.now.normal.n2 }
     requires key { context.old.key ≡ plain 2 ∷ [] }
     requires context { IsContext index.now.normal context.old }
     requires closed { ClosedLocally index.now.normal context.old }
@@ -215,8 +215,8 @@ fn is_silent_at_the_dead(
     index: &Index,
     context: &mut Context,
 ) -> bool
-    requires edge { Member (record { atom = 2; role = 0; other = 4 }) index.now.normal.n2 }
-    requires back { Member (record { atom = 4; role = 0; other = 5 }) index.now.normal.n3 }
+    requires edge { OneOf (record { atom = 2; role = 0; other = 4 }) index.now.normal.n2 }
+    requires back { OneOf (record { atom = 4; role = 0; other = 5 }) index.now.normal.n3 }
     requires key { context.old.key ≡ plain 2 ∷ [] }
     requires context { IsContext index.now.normal context.old }
     requires closed { ClosedLocally index.now.normal context.old }
@@ -275,7 +275,7 @@ fn tell_link(
     out: &mut Vec<Note>,
 )
     requires two { is_named index.now.normal 2 ≡ true }
-    requires edge { Member (record { atom = 2; role = 0; other = 4 }) index.now.normal.n2 }
+    requires edge { OneOf (record { atom = 2; role = 0; other = 4 }) index.now.normal.n2 }
     requires key { context.old.key ≡ plain 4 ∷ [] }
     requires context { IsContext index.now.normal context.old }
     requires closed { ClosedLocally index.now.normal context.old }
@@ -288,7 +288,7 @@ fn tell_link(
 /// Whether the link makes the context tell 2 that it has the class 4, and nothing else, and is the only fact that comes.
 fn tells_of_its_class(rt: &impl Abort, alloc: Global, index: &Index, context: &mut Context) -> bool
     requires two { is_named index.now.normal 2 ≡ true }
-    requires edge { Member (record { atom = 2; role = 0; other = 4 }) index.now.normal.n2 }
+    requires edge { OneOf (record { atom = 2; role = 0; other = 4 }) index.now.normal.n2 }
     requires key { context.old.key ≡ plain 4 ∷ [] }
     requires context { IsContext index.now.normal context.old }
     requires closed { ClosedLocally index.now.normal context.old }

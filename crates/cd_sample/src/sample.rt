@@ -2,7 +2,7 @@
 ghost use Rattle.std.specs.Prelude.{◌≡◌, ◌∷◌, [], true, IsTrue};
 ghost use Rattle.std.specs.List.{list_all};
 ghost use Rattle.cd_base.specs.Keys.{is_named};
-ghost use Rattle.cd_base.specs.Lists.{Member};
+ghost use Rattle.cd_base.specs.Lists.{OneOf};
 ghost use Rattle.cd_base.specs.Normal.{has_atoms_below};
 
 use cd_base::{Atom, Conj, Normal, Role, Seq, Triple};
@@ -61,8 +61,8 @@ fn six_atoms(rt: &impl Abort, alloc: Global) -> Normal
     ensures chains { result.n5 ≡ [] }
     ensures two { is_named result 2 ≡ true }
     ensures four { is_named result 4 ≡ true }
-    ensures edge { Member (record { atom = 2; role = 0; other = 4 }) result.n2 }
-    ensures back { Member (record { atom = 4; role = 0; other = 5 }) result.n3 }
+    ensures edge { OneOf (record { atom = 2; role = 0; other = 4 }) result.n2 }
+    ensures back { OneOf (record { atom = 4; role = 0; other = 5 }) result.n3 }
 {
     let n1 = three_axioms(rt, alloc);
     let named = vec![in alloc; true, true, true, true, true, true].expect(rt, "memory");
@@ -86,8 +86,8 @@ pub fn hand_made(rt: &impl Abort, alloc: Global) -> Index
     ensures roles { result.normal.roles ≡ 1 }
     ensures two { is_named result.normal 2 ≡ true }
     ensures four { is_named result.normal 4 ≡ true }
-    ensures edge { Member (record { atom = 2; role = 0; other = 4 }) result.normal.n2 }
-    ensures back { Member (record { atom = 4; role = 0; other = 5 }) result.normal.n3 }
+    ensures edge { OneOf (record { atom = 2; role = 0; other = 4 }) result.normal.n2 }
+    ensures back { OneOf (record { atom = 4; role = 0; other = 5 }) result.normal.n3 }
 {
     let normal = six_atoms(rt, alloc);
     let closure = Closure::of(alloc, normal.roles, normal.n5.items()).expect(rt, "memory");

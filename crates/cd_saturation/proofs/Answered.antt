@@ -8,16 +8,16 @@ use Rattle.cd_base.specs.declared.limit_kind.LimitKind.{LimitKind}
 use Rattle.cd_base.specs.declared.normal.Normal.{Normal}
 use Rattle.cd_model.specs.Canonical.{RolesInRange}
 use Rattle.cd_cell.specs.Cells.{CellState}
-use Rattle.cd_cell.specs.ClosedCells.{AreClosed}
+use Rattle.cd_cell.specs.ClosedCells.{AreSettled}
 use Rattle.cd_model.specs.Exactness.{Exact}
-use Rattle.cd_cell.specs.Subsumers.{IsAnswerOf}
+use Rattle.cd_cell.specs.Subsumers.{IsSubsumersOf}
 use Rattle.cd_cell.proofs.CellAnswers.{cell_exactness}
 use Rattle.cd_context.specs.State.{State, live_of}
 use Rattle.cd_meaning.specs.declared.document.Document.{Document}
-use Rattle.cd_normal.specs.Method.{IsByMethod}
+use Rattle.cd_normal.specs.NormalForm.{IsStructuralNormalForm}
 use Rattle.cd_saturation.specs.Answers.{AreAnswers}
 use Rattle.cd_saturation.specs.Limit.{HasReached, HasHalted}
-use Rattle.cd_saturation.specs.Saturation.{HasClosure, IsBegun, IsAnswerIn, place_for}
+use Rattle.cd_saturation.specs.Saturation.{HasClosure, IsBegun, IsSubsumersInCells, place_for}
 use Rattle.cd_saturation.specs.declared.halt.Halt.{Halt}
 use Rattle.cd_saturation.specs.declared.halt.Halt.TheVariants.{Limit, Memory}
 use Rattle.cd_saturation.proofs.Documents.{answer_decides, answer_within, are_answers}
@@ -28,24 +28,24 @@ at_place [] i d lt = absurd (omega arith)
 at_place (x ∷ xs) zero d lt = refl
 at_place (x ∷ xs) (suc i) d lt = at_place xs i d (omega arith)
 
-module _ (document : Document) (n : Normal) (m : IsByMethod document n) (closure : HasClosure n) (roles : RolesInRange n) (cells : List CellState) (closed : AreClosed n cells) (count : ℕ)
+module _ (document : Document) (n : Normal) (m : IsStructuralNormalForm document n) (closure : HasClosure n) (roles : RolesInRange n) (cells : List CellState) (closed : AreSettled n cells) (count : ℕ)
     (begun : (a : ℕ) → a < length document.classes → IsBegun count cells a) (above : List Answer) (each : length above ≡ length document.classes)
-    (are : (a : ℕ) (answer : Answer) → At above a answer → IsAnswerIn count cells a answer) where
+    (are : (a : ℕ) (answer : Answer) → At above a answer → IsSubsumersInCells count cells a answer) where
   -- the live clauses of a class's context are exact, and the class has their answer
   record Answered (a : ℕ) (answer : Answer) : Type 0 where
     state : State
     exact : Exact n a (live_of state)
-    is : IsAnswerOf n (live_of state) answer
+    is : IsSubsumersOf n (live_of state) answer
 
   answered : (a : ℕ) → a < length document.classes → (answer : Answer) → At above a answer → Answered a answer
   answered a lt answer at =
       let b = begun a lt in
       let s = b.2 in
-      let h : IsAnswerOf b.0.normal (live_of s.0) answer = are a answer at b.0 b.1 s.0 s.1 in
+      let h : IsSubsumersOf b.0.normal (live_of s.0) answer = are a answer at b.0 b.1 s.0 s.1 in
       record {
         state = s.0;
         exact = cell_exactness n closure.0 closure.1 roles cells closed (place_for count a) b.0 b.1 a s.0 s.1;
-        is = subst (λ z. IsAnswerOf z (live_of s.0) answer) (closed.normal (place_for count a) b.0 b.1) h;
+        is = subst (λ z. IsSubsumersOf z (live_of s.0) answer) (closed.normal (place_for count a) b.0 b.1) h;
       }
 
   at_class : (a : ℕ) (d : Answer) → a < length document.classes → At above a (get_or above a d)

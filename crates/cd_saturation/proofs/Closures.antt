@@ -1,7 +1,7 @@
 -- The role closure of normal axioms as a test of all numbers.
 use Rattle.std.proofs.Common.{◌≡◌, ℕ, ◌<◌, ◌⊎◌, ◌||◌, ◌&&◌, ◌==◌, inl, inr, nat_lt, Bool, true, List, refl, subst, arith, eqb-true, eq-eqb}
 use Rattle.std.proofs.lemmas.Bool.{and_parts, and_from, or_cases, or_left, or_right, ltb-true, lt-ltb}
-use Rattle.cd_base.specs.Lists.{Member}
+use Rattle.cd_base.specs.Lists.{OneOf}
 use Rattle.cd_base.specs.Normal.{Under, same, step, has_roles_below, is_triple_below}
 use Rattle.cd_base.specs.declared.normal.Normal.{Normal}
 use Rattle.cd_base.specs.declared.normal.RolePair.{RolePair}
@@ -12,12 +12,12 @@ use Rattle.cd_index.specs.Closure.{is_under, IsClosureOf}
 use Rattle.cd_saturation.specs.Saturation.{HasClosure}
 
 module _ (n : Normal) where
-  pair_within : (p : RolePair) → Member p n.n5 → (p.lower < n.roles) × (p.higher < n.roles)
+  pair_within : (p : RolePair) → OneOf p n.n5 → (p.lower < n.roles) × (p.higher < n.roles)
   pair_within p m =
       let b = and_parts (nat_lt p.lower n.roles) (nat_lt p.higher n.roles) (all_member (has_roles_below n.roles) n.n5 n.n5_within p m) in
       (ltb-true p.lower n.roles b.0, ltb-true p.higher n.roles b.1)
 
-  triple_within : (t : Triple) → Member t n.n2 → t.role < n.roles
+  triple_within : (t : Triple) → OneOf t n.n2 → t.role < n.roles
   triple_within t m =
       let h = all_member (is_triple_below n.atoms n.roles) n.n2 n.n2_within t m in
       let b = and_parts (nat_lt t.atom n.atoms && nat_lt t.role n.roles) (nat_lt t.other n.atoms) h in

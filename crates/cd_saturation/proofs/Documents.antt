@@ -1,32 +1,32 @@
--- What normal axioms by the method entail, their document entails.
+-- What the structural normal form entails, their document entails.
 use Rattle.std.proofs.Common.{◌≡◌, ◌==◌, ℕ, zero, suc, ◌-◌, ◌<◌, ◌↔◌, IsTrue, Bool, true, false, List, [], ◌∷◌, length, map, get_or, refl, sym, ap, subst, ◌∙◌, inl, inr, arith}
 use Rattle.std.specs.List.{All, list_any}
 use Rattle.std.proofs.lemmas.Bool.{cases_lt, false≢true, eqb-true, eq-eqb}
 use Rattle.std.proofs.lemmas.List.{get_or_append_left, get_or-append_right, length-map, get_or-map}
 use Rattle.cd_base.specs.Keys.{is_named}
-use Rattle.cd_base.specs.Lists.{Member}
+use Rattle.cd_base.specs.Lists.{OneOf}
 use Rattle.cd_base.specs.declared.answer.Answer.{Answer}
 use Rattle.cd_base.specs.declared.answer.Answer.TheVariants.{Unsatisfiable, Of}
 use Rattle.cd_base.specs.declared.normal.Normal.{Normal}
 use Rattle.cd_base.proofs.Members.{all_from_member, any_member, any_by_member}
 use Rattle.cd_clause.specs.declared.elem.Elem.{Elem}
 use Rattle.cd_model.specs.Exactness.{Exact, NoneIn, AllIn}
-use Rattle.cd_cell.specs.Subsumers.{IsAnswerOf}
+use Rattle.cd_cell.specs.Subsumers.{IsSubsumersOf}
 use Rattle.cd_meaning.specs.Answer.{Decides}
 use Rattle.cd_meaning.specs.Entailment.{Entails}
 use Rattle.cd_meaning.specs.Membership.{member}
 use Rattle.cd_meaning.specs.MembershipTable.{member-Name}
 use Rattle.cd_meaning.specs.declared.document.Document.{Document}
 use Rattle.cd_meaning.specs.declared.expression.Expr.TheVariants.{Name}
-use Rattle.cd_normal.specs.Method.{IsByMethod}
-use Rattle.cd_normal.specs.Uses.{Label}
+use Rattle.cd_normal.specs.NormalForm.{IsStructuralNormalForm}
+use Rattle.cd_normal.specs.Represents.{Label}
 use Rattle.cd_normal.proofs.FitsAxioms.{extends}
 use Rattle.cd_normal.proofs.RestrictAxioms.{restricts}
-use Rattle.cd_taxonomy.specs.Relation.{is_superclass, relation, IsWithin}
+use Rattle.cd_taxonomy.specs.Relation.{is_superclass, relation, HasClassesBelow}
 use Rattle.cd_saturation.specs.Answers.{AreAnswers}
 use Rattle.cd_taxonomy.proofs.Decided.{subsumption}
 
-module _ (document : Document) (n : Normal) (m : IsByMethod document n) where
+module _ (document : Document) (n : Normal) (m : IsStructuralNormalForm document n) where
   abbrev classes : ℕ
   classes = length document.classes
 
@@ -77,7 +77,7 @@ module _ (document : Document) (n : Normal) (m : IsByMethod document n) where
       absurd (none e.made e.model x l (e.classes a x la lt ∙ (sym (member-Name i x a) ∙ ma)))
 
   -- an exact context's answer says what the document entails of its class
-  pub answer_decides : (a : ℕ) → a < classes → (live : List (List Elem)) (answer : Answer) → Exact n a live → IsAnswerOf n live answer
+  pub answer_decides : (a : ℕ) → a < classes → (live : List (List Elem)) (answer : Answer) → Exact n a live → IsSubsumersOf n live answer
       → (b : ℕ) → b < classes → IsTrue (is_superclass answer b) ↔ Entails document.axioms a b
   answer_decides a la live Unsatisfiable x is b lb = (λ h. none_entailed a b la (x.empty_none is), λ h. refl)
   answer_decides a la live (Of atoms) x is b lb = (
@@ -85,18 +85,18 @@ module _ (document : Document) (n : Normal) (m : IsByMethod document n) where
     λ h. from_member atoms b ((is.2 b).1 (class_is_named b lb, x.all_single is.0 b (class_is_named b lb) (entailed_all a b la lb h))),
   )
     where
-      member_from : (l : List ℕ) (b : ℕ) → list_any (λ (atom : ℕ). atom == b) l ≡ true → Member b l
+      member_from : (l : List ℕ) (b : ℕ) → list_any (λ (atom : ℕ). atom == b) l ≡ true → OneOf b l
       member_from l b h =
           let r = any_member (λ (atom : ℕ). atom == b) l h in
-          subst (λ z. Member z l) (eqb-true r.0 b r.2) r.1
+          subst (λ z. OneOf z l) (eqb-true r.0 b r.2) r.1
 
-      from_member : (l : List ℕ) (b : ℕ) → Member b l → list_any (λ (atom : ℕ). atom == b) l ≡ true
+      from_member : (l : List ℕ) (b : ℕ) → OneOf b l → list_any (λ (atom : ℕ). atom == b) l ≡ true
       from_member l b h = any_by_member (λ (atom : ℕ). atom == b) l b h (eq-eqb b b refl)
 
-  pub answer_within : (live : List (List Elem)) (answer : Answer) → IsAnswerOf n live answer → IsWithin classes answer
+  pub answer_within : (live : List (List Elem)) (answer : Answer) → IsSubsumersOf n live answer → HasClassesBelow classes answer
   answer_within live Unsatisfiable is = tt
   answer_within live (Of atoms) is = all_from_member (λ (atom : ℕ). atom < classes) atoms (λ b h. named_is_class b ((is.2 b).0 h).0)
 
 pub are_answers : (document : Document) (above : List Answer) → Decides document (relation above) → length above ≡ length document.classes
-    → All (IsWithin (length document.classes)) above → AreAnswers document above
+    → All (HasClassesBelow (length document.classes)) above → AreAnswers document above
 are_answers document above decided each all = record { each = each; within = all; subsumption = subsumption document (relation above) decided; decided = decided }

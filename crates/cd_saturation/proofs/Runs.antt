@@ -1,7 +1,7 @@
 -- What a run over new cells with the start messages comes to.
 use Rattle.std.proofs.Common.{◌≡◌, ℕ, zero, suc, ◌+◌, ◌<◌, ◌⊎◌, inl, inr, Bool, List, [], ◌∷◌, ◌++◌, length, refl, sym, ap, subst, ◌∙◌, arith, true}
 use Rattle.cd_base.specs.Keys.{plain, is_named}
-use Rattle.cd_base.specs.Lists.{Member}
+use Rattle.cd_base.specs.Lists.{OneOf}
 use Rattle.cd_base.specs.declared.normal.Normal.{Normal}
 use Rattle.cd_actor.specs.Cells.{At, AreCells, AreOf, IsLawful, AreAllLawful, Had, total}
 use Rattle.cd_actor.specs.Settled.{IsSettled, KeepsFamily}
@@ -9,12 +9,12 @@ use Rattle.cd_base.proofs.Members.{member_left, member_right, member_cases}
 use Rattle.cd_base.specs.declared.answer.Answer.{Answer}
 use Rattle.std.proofs.lemmas.Bool.{cases_lt}
 use Rattle.cd_actor.proofs.At.{at_below, at_one}
-use Rattle.cd_cell.specs.Subsumers.{HasContext, IsSubsumers}
+use Rattle.cd_cell.specs.Subsumers.{HasContext, IsSubsumersIn}
 use Rattle.cd_context.specs.declared.facts.Fact.TheVariants.{Start}
 use Rattle.cd_clause.specs.Derivations.{from_named}
 use Rattle.cd_context.specs.declared.facts.Note.{Note}
 use Rattle.cd_cell.specs.Cells.{CellState, IsWhole, IsCell, IsLawfulNote, meaning}
-use Rattle.cd_cell.specs.ClosedCells.{AreClosed}
+use Rattle.cd_cell.specs.ClosedCells.{AreSettled}
 use Rattle.cd_cell.specs.Counts.{HasContexts, HasFacts}
 use Rattle.cd_cell.proofs.CountedCells.{cell_counts}
 use Rattle.cd_cell.proofs.Lookups.{has_from, member_of_state}
@@ -24,7 +24,7 @@ use Rattle.cd_core.specs.declared.stops.Stop.{Stop}
 use Rattle.cd_core.specs.declared.stops.Stop.TheVariants.{Limit, Memory}
 use Rattle.cd_base.specs.declared.limit_kind.LimitKind.TheVariants.{Contexts, Facts}
 use Rattle.cd_saturation.specs.Limit.{HasHalted, halt_of}
-use Rattle.cd_saturation.specs.Saturation.{AreNew, AreStarts, IsBegun, IsCoreBegun, IsAnswerIn, new_cell, place_for, start_of}
+use Rattle.cd_saturation.specs.Saturation.{AreNew, AreStarts, IsBegun, IsCoreBegun, IsSubsumersInCells, new_cell, place_for, start_of}
 
 -- an element of a list with one more
 pub at_push : {X : Type 0} (xs : List X) (y x : X) (i : ℕ) → At (xs ++ y ∷ []) i x → At xs i x ⊎ ((i ≡ length xs) × (x ≡ y))
@@ -82,7 +82,7 @@ module _ (n : Normal) (count : ℕ) (cells : List CellState) (are : AreNew n cou
   normal_after after keeps i c at = ap (λ (f : ℕ × Normal). f.1) (keeps (count, n) of_family i c at)
 
   -- where nothing is owed that is not had, the cells are closed
-  pub closed_after : (pending : List (ℕ × Note)) (after : List CellState) → IsSettled meaning cells pending after → AreClosed n after
+  pub closed_after : (pending : List (ℕ × Note)) (after : List CellState) → IsSettled meaning cells pending after → AreSettled n after
   closed_after pending after e = record { are_cells = e.are_cells; normal = normal_after after e.family; had = e.owed }
 
   -- as many contexts as were counted, and as many facts
@@ -100,7 +100,7 @@ module _ (n : Normal) (count : ℕ) (cells : List CellState) (are : AreNew n cou
 
 -- where the start messages are had, the contexts of the classes have begun
 pub begun_after : (count : ℕ) (core after : List CellState) (pending : List (ℕ × Note)) → IsSettled meaning core pending after
-    → (a : ℕ) → Member (start_of count a) pending → IsBegun count after a
+    → (a : ℕ) → OneOf (start_of count a) pending → IsBegun count after a
 begun_after count core after pending end_ a m =
     let x = start_of count a in
     let h : Had meaning after x = end_.had x (inr m) in
@@ -112,23 +112,23 @@ pub core_begun : (n : Normal) (count classes : ℕ) (cells : List CellState) (st
     → IsCoreBegun n count classes core
 core_begun n count classes cells start core new starts b = record {
   new = subst (λ cs. AreNew n count cs) (sym b.cells_are) new;
-  starts = λ a lt. subst (λ q. Member (start_of count a) q) (sym b.pending) (member_left (start_of count a) start b.more (starts.every a lt));
+  starts = λ a lt. subst (λ q. OneOf (start_of count a) q) (sym b.pending) (member_left (start_of count a) start b.more (starts.every a lt));
 }
 
 -- one more start message
 pub starts_more : (count k : ℕ) (start new : List (ℕ × Note)) → AreStarts count k start → new ≡ start ++ start_of count k ∷ [] → AreStarts count (k + 1) new
-starts_more count k start new are e = record { only = λ x m. only x (subst (λ q. Member x q) e m); every = λ a lt. subst (λ q. Member (start_of count a) q) (sym e) (every a lt) }
+starts_more count k start new are e = record { only = λ x m. only x (subst (λ q. OneOf x q) e m); every = λ a lt. subst (λ q. OneOf (start_of count a) q) (sym e) (every a lt) }
   where
-    only : (x : ℕ × Note) → Member x (start ++ start_of count k ∷ []) → (a : ℕ) × (a < k + 1) × (x ≡ start_of count a)
+    only : (x : ℕ × Note) → OneOf x (start ++ start_of count k ∷ []) → (a : ℕ) × (a < k + 1) × (x ≡ start_of count a)
     only x m = elim (member_cases x start (start_of count k ∷ []) m) [
       | inl h ↦ let r = are.only x h in (r.0, omega (arith, r.1), r.2)
       | inr h ↦ elim h [ inl q ↦ (k, omega arith, q) | inr z ↦ absurd z ]
     ]
 
-    every : (a : ℕ) → a < k + 1 → Member (start_of count a) (start ++ start_of count k ∷ [])
+    every : (a : ℕ) → a < k + 1 → OneOf (start_of count a) (start ++ start_of count k ∷ [])
     every a lt = elim (cases_lt a k) [
       | inl l ↦ member_left (start_of count a) start (start_of count k ∷ []) (are.every a l)
-      | inr l ↦ (let q : k ≡ a = omega arith in subst (λ z. Member (start_of count z) (start ++ start_of count k ∷ [])) q (member_right (start_of count k) start (start_of count k ∷ []) (inl refl)))
+      | inr l ↦ (let q : k ≡ a = omega arith in subst (λ z. OneOf (start_of count z) (start ++ start_of count k ∷ [])) q (member_right (start_of count k) start (start_of count k ∷ []) (inl refl)))
     ]
 
 -- one more cell
@@ -144,13 +144,13 @@ module _ (count a place : ℕ) (cells : List CellState) (c : CellState) (at : At
   pub context_here : IsBegun count cells a → HasContext c.contexts a
   context_here b = subst (λ (d : CellState). HasContext d.contexts a) (at_one cells place b.0 c (subst (λ p. At cells p b.0) (sym is) b.1) at) b.2
 
-  pub answer_here : (answer : Answer) → IsSubsumers c.normal c.contexts a answer → IsAnswerIn count cells a answer
-  answer_here answer s d h = subst (λ (d : CellState). IsSubsumers d.normal d.contexts a answer) (sym (at_one cells place d c (subst (λ p. At cells p d) (sym is) h) at)) s
+  pub answer_here : (answer : Answer) → IsSubsumersIn c.normal c.contexts a answer → IsSubsumersInCells count cells a answer
+  answer_here answer s d h = subst (λ (d : CellState). IsSubsumersIn d.normal d.contexts a answer) (sym (at_one cells place d c (subst (λ p. At cells p d) (sym is) h) at)) s
 
 -- one more answer
-pub answers_more : (count k : ℕ) (cells : List CellState) (above new : List Answer) (answer : Answer) → length above ≡ k → ((a : ℕ) (x : Answer) → At above a x → IsAnswerIn count cells a x) → IsAnswerIn count cells k answer → new ≡ above ++ answer ∷ []
-    → (a : ℕ) (x : Answer) → At new a x → IsAnswerIn count cells a x
+pub answers_more : (count k : ℕ) (cells : List CellState) (above new : List Answer) (answer : Answer) → length above ≡ k → ((a : ℕ) (x : Answer) → At above a x → IsSubsumersInCells count cells a x) → IsSubsumersInCells count cells k answer → new ≡ above ++ answer ∷ []
+    → (a : ℕ) (x : Answer) → At new a x → IsSubsumersInCells count cells a x
 answers_more count k cells above new answer long are is e a x at = elim (at_push above answer x a (subst (λ q. At q a x) e at)) [
   | inl h ↦ are a x h
-  | inr h ↦ subst (λ z. IsAnswerIn count cells z x) (sym (h.0 ∙ long)) (subst (λ z. IsAnswerIn count cells k z) (sym h.1) is)
+  | inr h ↦ subst (λ z. IsSubsumersInCells count cells z x) (sym (h.0 ∙ long)) (subst (λ z. IsSubsumersInCells count cells k z) (sym h.1) is)
 ]

@@ -1,7 +1,7 @@
 -- The cells of a run: how they begin, and what they have come to.
 use Rattle.std.specs.Prelude.{◌≡◌, ℕ, ◌<◌, Bool, false, List, [], ◌∷◌, length}
 use Rattle.cd_base.specs.Keys.{plain}
-use Rattle.cd_base.specs.Lists.{Member}
+use Rattle.cd_base.specs.Lists.{OneOf}
 use Rattle.cd_base.specs.declared.answer.Answer.{Answer}
 use Rattle.cd_base.specs.declared.normal.Normal.{Normal}
 use Rattle.cd_actor.specs.Cells.{At}
@@ -9,7 +9,7 @@ use Rattle.cd_context.specs.declared.facts.Fact.TheVariants.{Start}
 use Rattle.cd_context.specs.declared.facts.Note.{Note}
 use Rattle.cd_model.specs.Canonical.{IsClosure}
 use Rattle.cd_cell.specs.Cells.{CellState, place_of}
-use Rattle.cd_cell.specs.Subsumers.{HasContext, IsSubsumers}
+use Rattle.cd_cell.specs.Subsumers.{HasContext, IsSubsumersIn}
 
 -- a test tells which roles are under which
 abbrev pub HasClosure : Normal → Type 0
@@ -34,18 +34,18 @@ start_of count a = (place_for count a, record { key = plain a ∷ []; fact = Sta
 
 -- the messages that begin the contexts of the first classes
 pub record AreStarts (count classes : ℕ) (start : List (ℕ × Note)) : Type 0 where
-  pub only : (x : ℕ × Note) → Member x start → (a : ℕ) × (a < classes) × (x ≡ start_of count a)
-  pub every : (a : ℕ) → a < classes → Member (start_of count a) start
+  pub only : (x : ℕ × Note) → OneOf x start → (a : ℕ) × (a < classes) × (x ≡ start_of count a)
+  pub every : (a : ℕ) → a < classes → OneOf (start_of count a) start
 
 -- a core over new cells, where the messages pend that begin the contexts of the first classes
 pub record IsCoreBegun (n : Normal) (count classes : ℕ) (core : List CellState × List (ℕ × Note) × Bool) : Type 0 where
   pub new : AreNew n count core.0
-  pub starts : (a : ℕ) → a < classes → Member (start_of count a) core.1
+  pub starts : (a : ℕ) → a < classes → OneOf (start_of count a) core.1
 
 -- the cell of the class has its context
 abbrev pub IsBegun : ℕ → List CellState → ℕ → Type 0
 IsBegun count cells a = (c : CellState) × At cells (place_for count a) c × HasContext c.contexts a
 
 -- the answer is that of the class's context in its cell
-abbrev pub IsAnswerIn : ℕ → List CellState → ℕ → Answer → Type 0
-IsAnswerIn count cells a answer = (c : CellState) → At cells (place_for count a) c → IsSubsumers c.normal c.contexts a answer
+abbrev pub IsSubsumersInCells : ℕ → List CellState → ℕ → Answer → Type 0
+IsSubsumersInCells count cells a answer = (c : CellState) → At cells (place_for count a) c → IsSubsumersIn c.normal c.contexts a answer

@@ -2,7 +2,7 @@
 ghost use Rattle.std.specs.Prelude.{◌<◌, ◌-◌, ◌+◌, ◌*◌, ◌^◌, length, IfOk};
 ghost use Rattle.cd_model.specs.Canonical.{RolesInRange};
 ghost use Rattle.cd_meaning.specs.Nodes.{nodes};
-ghost use Rattle.cd_normal.specs.Method.{IsByMethod};
+ghost use Rattle.cd_normal.specs.NormalForm.{IsStructuralNormalForm};
 ghost use Rattle.cd_saturation.specs.Saturation.{HasClosure};
 
 use cd_base::Memory;
@@ -15,7 +15,7 @@ use std::alloc::Global;
 /// and the related pairs of them.
 pub fn index_of(alloc: Global, document: &Document) -> Result<Index, Memory>
     requires few { length document.now.classes + 6 * nodes document.now.axioms < 2 ^ 32 - 1 }
-    ensures method { IfOk result (λ index. IsByMethod document.now index.normal) }
+    ensures method { IfOk result (λ index. IsStructuralNormalForm document.now index.normal) }
     ensures closure { IfOk result (λ index. HasClosure index.normal) }
     ensures roles { IfOk result (λ index. RolesInRange index.normal) }
 {

@@ -1,7 +1,7 @@
 //! Cells that are worked until each conclusion is redundant.
 ghost use Rattle.std.specs.Prelude.{◌≡◌, ◌<◌, ℕ, true, length, IfOk, IfErr};
 ghost use Rattle.cd_base.specs.Keys.{is_named};
-ghost use Rattle.cd_cell.specs.ClosedCells.{AreClosed};
+ghost use Rattle.cd_cell.specs.ClosedCells.{AreSettled};
 ghost use Rattle.cd_saturation.specs.Limit.{HasHalted};
 ghost use Rattle.cd_saturation.specs.Saturation.{AreNew, AreStarts, IsBegun, IsCoreBegun, place_for, start_of};
 
@@ -23,7 +23,7 @@ pub fn saturate<'a>(
     limits: &Limits,
 ) -> Result<Vec<Cell<'a>>, Halt>
     requires named { (a : ℕ) → a < classes → is_named index.now.normal a ≡ true }
-    ensures closed { IfOk result (λ cells. AreClosed index.now.normal cells.items) }
+    ensures closed { IfOk result (λ cells. AreSettled index.now.normal cells.items) }
     ensures begun { IfOk result (λ cells. (a : ℕ) → a < classes → IsBegun limits.now.cells cells.items a) }
     ensures halted { IfErr result (HasHalted index.now.normal limits.now.max_contexts limits.now.max_facts) }
 {

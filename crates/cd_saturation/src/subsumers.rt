@@ -8,7 +8,7 @@ ghost use Rattle.cd_cell.specs.Cells.{CellState};
 ghost use Rattle.cd_meaning.specs.Nodes.{nodes};
 ghost use Rattle.cd_saturation.specs.Answers.{AreAnswers};
 ghost use Rattle.cd_saturation.specs.Limit.{IsReached};
-ghost use Rattle.cd_saturation.specs.Saturation.{IsBegun, IsAnswerIn};
+ghost use Rattle.cd_saturation.specs.Saturation.{IsBegun, IsSubsumersInCells};
 
 use crate::halt::Halt;
 use crate::indexing::index_of;
@@ -46,7 +46,7 @@ fn all_answers(
     requires begun { (a : ℕ) → a < classes → IsBegun count cells.now a }
     requires named { (a : ℕ) → a < classes → (i : ℕ) (c : CellState) → At cells.now i c → is_named c.normal a ≡ true }
     ensures each { IfOk result (λ above. length above.items ≡ classes) }
-    ensures are { IfOk result (λ above. (a : ℕ) (answer : Answer) → At above.items a answer → IsAnswerIn count cells.now a answer) }
+    ensures are { IfOk result (λ above. (a : ℕ) (answer : Answer) → At above.items a answer → IsSubsumersInCells count cells.now a answer) }
 {
     let mut above = Vec::new(alloc);
     'classes: for class in 0..classes {
@@ -60,7 +60,7 @@ fn answer_in(alloc: Global, cells: &[Cell<'_>], count: u32, class: u32) -> Resul
     requires count { 0 < count }
     requires begun { IsBegun count cells.now class }
     requires named { (i : ℕ) (c : CellState) → At cells.now i c → is_named c.normal class ≡ true }
-    ensures { IfOk result (IsAnswerIn count cells.now class) }
+    ensures { IfOk result (IsSubsumersInCells count cells.now class) }
 {
     let place = cell_of(alloc, class, count);
     let answer = cells[place].subsumers(alloc, Atom(class))?;

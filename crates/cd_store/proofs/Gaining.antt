@@ -1,7 +1,7 @@
 -- A walk by number, each step of which puts some numbers into a list.
 use Rattle.std.proofs.Common.{◌≡◌, ◌⊎◌, ℕ, ◌+◌, ◌<◌, ◌≤◌, List, ◌++◌, sym, subst, inl, inr, arith}
 use Rattle.std.proofs.lemmas.Bool.{cases_eq}
-use Rattle.cd_base.specs.Lists.{Member}
+use Rattle.cd_base.specs.Lists.{OneOf}
 use Rattle.cd_base.proofs.Members.{member_left, member_right}
 use Rattle.cd_store.specs.LookUps.{Gains}
 
@@ -31,8 +31,8 @@ pub gain_both : (P R : ℕ → Type 0) (old mid new : List ℕ) → Gains P old 
 gain_both P R old mid new g h b q = elim q [ inl o ↦ h b (inl (g b (inl o))) | inr z ↦ elim z [ inl p ↦ h b (inl (g b (inr p))) | inr r ↦ h b (inr r) ] ]
 
 -- a list was appended
-pub gain_list : (P : ℕ → Type 0) (old new more : List ℕ) → new ≡ old ++ more → ((m : ℕ) → P m → Member m more) → Gains P old new
-gain_list P old new more e f b q = subst (Member b) (sym e) (elim q [ inl o ↦ member_left b old more o | inr p ↦ member_right b old more (f b p) ])
+pub gain_list : (P : ℕ → Type 0) (old new more : List ℕ) → new ≡ old ++ more → ((m : ℕ) → P m → OneOf m more) → Gains P old new
+gain_list P old new more e f b q = subst (OneOf b) (sym e) (elim q [ inl o ↦ member_left b old more o | inr p ↦ member_right b old more (f b p) ])
 
 -- nothing was
 pub gain_none : (P : ℕ → Type 0) (old : List ℕ) → ((m : ℕ) → P m → ⊥) → Gains P old old

@@ -1,7 +1,7 @@
 -- The scans of the live clauses.
 use Rattle.std.proofs.Common.{◌≡◌, ◌↔◌, ℕ, zero, suc, ◌<◌, ◌≤◌, inl, inr, List, [], ◌∷◌, ◌++◌, length, get_or, refl, sym, subst, arith}
 use Rattle.cd_clause.specs.declared.elem.Elem.{Elem}
-use Rattle.cd_base.specs.Lists.{Member}
+use Rattle.cd_base.specs.Lists.{OneOf}
 use Rattle.cd_base.proofs.Members.{member_left, member_right, member_cases}
 use Rattle.cd_base.proofs.Members.{member_at, member_get}
 use Rattle.cd_store.specs.Sift.{IsSuperset, Leaves, Sifts}
@@ -20,12 +20,12 @@ ascends_at (n ∷ ns) zero (suc k) a l h = let b : n < get_or ns k 0 = a.0 _ (me
 ascends_at (n ∷ ns) (suc i) zero a l h = absurd (omega arith)
 ascends_at (n ∷ ns) (suc i) (suc k) a l h = ascends_at ns i k a.1 (omega arith) (omega arith)
 
-pub sift_keep : (dead xs ys : List ℕ) (n : ℕ) → Leaves dead xs ys → (Member n dead → ⊥) → Leaves dead (xs ++ n ∷ []) (ys ++ n ∷ [])
+pub sift_keep : (dead xs ys : List ℕ) (n : ℕ) → Leaves dead xs ys → (OneOf n dead → ⊥) → Leaves dead (xs ++ n ∷ []) (ys ++ n ∷ [])
 sift_keep dead xs ys n s w = record {
   kept = λ m h. elim (member_cases m xs (n ∷ []) h) [ inl k ↦ elim (s.kept m k) [ inl j ↦ inl (member_left m ys (n ∷ []) j) | inr v ↦ inr v ] | inr k ↦ inl (member_right m ys (n ∷ []) k) ];
   only = λ m h. elim (member_cases m ys (n ∷ []) h) [
     | inl k ↦ (member_left m xs (n ∷ []) (s.only m k).0, (s.only m k).1)
-    | inr k ↦ (member_right m xs (n ∷ []) k, λ v. w (elim k [ inl e ↦ subst (λ q. Member q dead) e v | inr z ↦ absurd z ]))
+    | inr k ↦ (member_right m xs (n ∷ []) k, λ v. w (elim k [ inl e ↦ subst (λ q. OneOf q dead) e v | inr z ↦ absurd z ]))
   ];
   ascends = λ a. ascends_append ys n (s.ascends (ascends_front xs n a)) (λ m h. ascends_last xs n a m (s.only m h).0);
 }
@@ -34,14 +34,14 @@ sift_keep dead xs ys n s w = record {
     ascends_front [] n a = tt
     ascends_front (k ∷ ns) n a = (λ m h. a.0 m (member_left m ns (n ∷ []) h), ascends_front ns n a.1)
 
-    ascends_last : (ns : List ℕ) (n : ℕ) → IsAscending (ns ++ n ∷ []) → (m : ℕ) → Member m ns → m < n
+    ascends_last : (ns : List ℕ) (n : ℕ) → IsAscending (ns ++ n ∷ []) → (m : ℕ) → OneOf m ns → m < n
     ascends_last [] n a m h = absurd h
     ascends_last (k ∷ ns) n a m (inl e) = subst (λ q. q < n) (sym e) (a.0 n (member_right n ns (n ∷ []) (inl refl)))
     ascends_last (k ∷ ns) n a m (inr h) = ascends_last ns n a.1 m h
 
-pub sift_drop : (dead xs ys : List ℕ) (n : ℕ) → Leaves dead xs ys → Member n dead → Leaves dead (xs ++ n ∷ []) ys
+pub sift_drop : (dead xs ys : List ℕ) (n : ℕ) → Leaves dead xs ys → OneOf n dead → Leaves dead (xs ++ n ∷ []) ys
 sift_drop dead xs ys n s w = record {
-  kept = λ m h. elim (member_cases m xs (n ∷ []) h) [ inl k ↦ s.kept m k | inr k ↦ elim k [ inl e ↦ inr (subst (λ q. Member q dead) (sym e) w) | inr z ↦ absurd z ] ];
+  kept = λ m h. elim (member_cases m xs (n ∷ []) h) [ inl k ↦ s.kept m k | inr k ↦ elim k [ inl e ↦ inr (subst (λ q. OneOf q dead) (sym e) w) | inr z ↦ absurd z ] ];
   only = λ m h. (member_left m xs (n ∷ []) (s.only m h).0, (s.only m h).1);
   ascends = λ a. s.ascends (front xs n a);
 }
@@ -51,7 +51,7 @@ sift_drop dead xs ys n s w = record {
     front (k ∷ ns) n a = (λ m h. a.0 m (member_left m ns (n ∷ []) h), front ns n a.1)
 
 -- where the dead ones are the live supersets
-pub sifted : (clauses : List (List Elem)) (c : List Elem) (live dead after : List ℕ) → ((n : ℕ) → Member n dead ↔ IsSuperset clauses live c n) → Leaves dead live after → Sifts clauses c live after
+pub sifted : (clauses : List (List Elem)) (c : List Elem) (live dead after : List ℕ) → ((n : ℕ) → OneOf n dead ↔ IsSuperset clauses live c n) → Leaves dead live after → Sifts clauses c live after
 sifted clauses c live dead after h s = record {
   kept = λ n m. elim (s.kept n m) [ inl k ↦ inl k | inr d ↦ inr ((h n).0 d).1 ];
   only = λ n m. let o = s.only n m in (o.0, λ w. o.1 ((h n).1 (o.0, w)));
@@ -62,5 +62,5 @@ sifted clauses c live dead after h s = record {
 abbrev pub IsSupersetAt : List ℕ → List (List Elem) → List ℕ → List Elem → ℕ → ℕ → Type 0
 IsSupersetAt numbers clauses live c i n = (n ≡ get_or numbers i 0) × IsSuperset clauses live c n
 
-pub superset_place : (numbers : List ℕ) (clauses : List (List Elem)) (live : List ℕ) (c : List Elem) (n : ℕ) → Member n numbers × IsSuperset clauses live c n → (i : ℕ) × (i < length numbers) × IsSupersetAt numbers clauses live c i n
+pub superset_place : (numbers : List ℕ) (clauses : List (List Elem)) (live : List ℕ) (c : List Elem) (n : ℕ) → OneOf n numbers × IsSuperset clauses live c n → (i : ℕ) × (i < length numbers) × IsSupersetAt numbers clauses live c i n
 superset_place numbers clauses live c n q = let w = member_at n numbers q.0 in (w.0, w.1, (sym (w.2 0), q.1))

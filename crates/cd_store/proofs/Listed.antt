@@ -5,7 +5,7 @@ use Rattle.std.specs.Map.{lookup}
 use Rattle.std.specs.Option.{option_map_or}
 use Rattle.std.proofs.lemmas.Bool.{cond-true}
 use Rattle.smallvec.specs.SmallVec.{SmallVec}
-use Rattle.cd_base.specs.Lists.{Member}
+use Rattle.cd_base.specs.Lists.{OneOf}
 use Rattle.cd_base.proofs.Members.{member_at}
 use Rattle.cd_store.specs.Filing.{keys_of, listed, HasList, KeepsFiled}
 
@@ -23,11 +23,11 @@ listed_of {V} items (e ∷ es) a = by (nat_eq a e.0) (listed_of items es a)
     by false r = r
 
 -- a number that is listed is listed under one of the keys
-listed_key : (ps : List (ℕ × List ℕ)) (q m : ℕ) → Member m (listed ps q) → Member q (keys_of ps)
+listed_key : (ps : List (ℕ × List ℕ)) (q m : ℕ) → OneOf m (listed ps q) → OneOf q (keys_of ps)
 listed_key [] q m h = absurd h
 listed_key (p ∷ ps) q m h = by (nat_eq q p.0) refl (listed_key ps q m) h
   where
-    by : (b : Bool) → nat_eq q p.0 ≡ b → (Member m (listed ps q) → Member q (keys_of ps)) → Member m (cond b p.1 (listed ps q)) → Member q (keys_of (p ∷ ps))
+    by : (b : Bool) → nat_eq q p.0 ≡ b → (OneOf m (listed ps q) → OneOf q (keys_of ps)) → OneOf m (cond b p.1 (listed ps q)) → OneOf q (keys_of (p ∷ ps))
     by true e r h = inl (eqb-true q p.0 e)
     by false e r h = inr (r h)
 
@@ -54,22 +54,22 @@ module _ {V : Type 0} (items : V → List ℕ) where
 
   module _ (es fs : List (ℕ × V)) (k : ℕ) (w : V) (u : (q : ℕ) → lookup (nat_eq q) fs ≡ cond (nat_eq k q) (Some w) (lookup (nat_eq q) es)) where
     -- the list of one number was put in the place of what it had
-    keeps : ((m : ℕ) → Member m (option_map_or items (lookup (nat_eq k) es) []) → Member m (items w)) → KeepsFiled (seen es) (seen fs)
+    keeps : ((m : ℕ) → OneOf m (option_map_or items (lookup (nat_eq k) es) []) → OneOf m (items w)) → KeepsFiled (seen es) (seen fs)
     keeps g a m h =
-        subst (λ l. Member m l) (sym (listed_of items fs a ∙ ap (λ o. option_map_or items o []) (u a))) (by (nat_eq k a) refl (subst (λ l. Member m l) (listed_of items es a) h))
+        subst (λ l. OneOf m l) (sym (listed_of items fs a ∙ ap (λ o. option_map_or items o []) (u a))) (by (nat_eq k a) refl (subst (λ l. OneOf m l) (listed_of items es a) h))
       where
-        by : (b : Bool) → nat_eq k a ≡ b → Member m (option_map_or items (lookup (nat_eq a) es) []) → Member m (option_map_or items (cond b (Some w) (lookup (nat_eq a) es)) [])
-        by true e i = g m (subst (λ q. Member m (option_map_or items (lookup (nat_eq q) es) [])) (sym (eqb-true k a e)) i)
+        by : (b : Bool) → nat_eq k a ≡ b → OneOf m (option_map_or items (lookup (nat_eq a) es) []) → OneOf m (option_map_or items (cond b (Some w) (lookup (nat_eq a) es)) [])
+        by true e i = g m (subst (λ q. OneOf m (option_map_or items (lookup (nat_eq q) es) [])) (sym (eqb-true k a e)) i)
         by false e i = i
 
     -- where it had a list, and this one has all of that
-    pub keeps_more : (old : V) → Some old ≡ lookup (nat_eq k) es → ((m : ℕ) → Member m (items old) → Member m (items w)) → KeepsFiled (seen es) (seen fs)
-    keeps_more old e g = keeps (λ m h. g m (subst (λ o. Member m (option_map_or items o [])) (sym e) h))
+    pub keeps_more : (old : V) → Some old ≡ lookup (nat_eq k) es → ((m : ℕ) → OneOf m (items old) → OneOf m (items w)) → KeepsFiled (seen es) (seen fs)
+    keeps_more old e g = keeps (λ m h. g m (subst (λ o. OneOf m (option_map_or items o [])) (sym e) h))
 
     -- where it had none
     pub keeps_new : listed (seen es) k ≡ [] → KeepsFiled (seen es) (seen fs)
-    keeps_new e = keeps (λ m h. absurd (subst (λ l. Member m l) (sym (listed_of items es k) ∙ e) h))
+    keeps_new e = keeps (λ m h. absurd (subst (λ l. OneOf m l) (sym (listed_of items es k) ∙ e) h))
 
     -- what is in the list is filed
-    pub is_filed : (m : ℕ) → Member m (items w) → Member m (listed (seen fs) k)
-    is_filed m h = subst (λ l. Member m l) (sym (listed_of items fs k ∙ ap (λ o. option_map_or items o []) (u k ∙ cond-true (nat_eq k k) (Some w) (lookup (nat_eq k) es) (eq-eqb k k refl)))) h
+    pub is_filed : (m : ℕ) → OneOf m (items w) → OneOf m (listed (seen fs) k)
+    is_filed m h = subst (λ l. OneOf m l) (sym (listed_of items fs k ∙ ap (λ o. option_map_or items o []) (u k ∙ cond-true (nat_eq k k) (Some w) (lookup (nat_eq k) es) (eq-eqb k k refl)))) h

@@ -2,19 +2,19 @@
 use Rattle.std.proofs.Common.{◌≡◌, ℕ, ◌+◌, ◌<◌, ◌⊎◌, inl, inr, List, [], ◌∷◌, ◌++◌, length, get_or, reverse, refl, ap, sym, ◌∙◌, subst, arith}
 use Rattle.std.proofs.lemmas.List.{get_or_append_left, reverse-append, length-append}
 use Rattle.cd_clause.specs.declared.elem.Elem.{Elem}
-use Rattle.cd_base.specs.Lists.{Member, Within}
+use Rattle.cd_base.specs.Lists.{OneOf, Within}
 use Rattle.cd_clause.specs.Derivations.{Redundant}
 use Rattle.cd_base.proofs.Members.{member_left, member_right, member_cases}
 use Rattle.cd_store.specs.Sift.{Sifts}
 use Rattle.cd_clause.specs.Numbers.{picked}
 use Rattle.cd_store.specs.Store.{IsStore, IsNew, IsAdded, IsAscending, ContainsNoEarlier}
 
-pub picked_in : (clauses : List (List Elem)) (ns : List ℕ) (n : ℕ) → Member n ns → Member (get_or clauses n []) (picked clauses ns)
+pub picked_in : (clauses : List (List Elem)) (ns : List ℕ) (n : ℕ) → OneOf n ns → OneOf (get_or clauses n []) (picked clauses ns)
 picked_in clauses [] n h = elim h [ ]
 picked_in clauses (m ∷ ns) n (inl e) = inl (ap (λ k. get_or clauses k []) e)
 picked_in clauses (m ∷ ns) n (inr h) = inr (picked_in clauses ns n h)
 
-pub picked_from : (clauses : List (List Elem)) (ns : List ℕ) (c : List Elem) → Member c (picked clauses ns) → (n : ℕ) × Member n ns × (c ≡ get_or clauses n [])
+pub picked_from : (clauses : List (List Elem)) (ns : List ℕ) (c : List Elem) → OneOf c (picked clauses ns) → (n : ℕ) × OneOf n ns × (c ≡ get_or clauses n [])
 picked_from clauses [] c h = elim h [ ]
 picked_from clauses (m ∷ ns) c (inl e) = (m, inl refl, e)
 picked_from clauses (m ∷ ns) c (inr h) = let r = picked_from clauses ns c h in (r.0, inr r.1, r.2)
@@ -23,15 +23,15 @@ pub get_last : (clauses : List (List Elem)) (c : List Elem) → get_or (clauses 
 get_last [] c = refl
 get_last (d ∷ clauses) c = get_last clauses c
 
-pub member_reverse : {X : Type 0} (xs : List X) (x : X) → Member x (reverse xs) → Member x xs
+pub member_reverse : {X : Type 0} (xs : List X) (x : X) → OneOf x (reverse xs) → OneOf x xs
 member_reverse [] x h = h
 member_reverse (y ∷ xs) x h =
-    elim (member_cases x (reverse xs) (y ∷ []) (subst (λ q. Member x q) (reverse-append (y ∷ []) xs) h)) [
+    elim (member_cases x (reverse xs) (y ∷ []) (subst (λ q. OneOf x q) (reverse-append (y ∷ []) xs) h)) [
       | inl k ↦ inr (member_reverse xs x k)
       | inr k ↦ elim k [ inl e ↦ inl e | inr z ↦ absurd z ]
     ]
 
-pub ascends_append : (ns : List ℕ) (n : ℕ) → IsAscending ns → ((m : ℕ) → Member m ns → m < n) → IsAscending (ns ++ n ∷ [])
+pub ascends_append : (ns : List ℕ) (n : ℕ) → IsAscending ns → ((m : ℕ) → OneOf m ns → m < n) → IsAscending (ns ++ n ∷ [])
 ascends_append [] n a h = (λ m k. absurd k, tt)
 ascends_append (k ∷ ns) n a h = (
   λ m i. elim (member_cases m ns (n ∷ []) i) [ inl j ↦ a.0 m j | inr j ↦ elim j [ inl e ↦ subst (λ q. k < q) (sym e) (h k (inl refl)) | inr z ↦ absurd z ] ],
@@ -45,14 +45,14 @@ redundant_after w before after d a r = elim (a.kept r.0 r.1) [
 ]
 
 module _ (clauses : List (List Elem)) (live after : List ℕ) (c : List Elem) (s : IsStore clauses live) (sifts : Sifts clauses c live after) (free : Redundant (picked clauses live) c → ⊥) where
-  same : (n : ℕ) → Member n after → get_or (clauses ++ c ∷ []) n [] ≡ get_or clauses n []
+  same : (n : ℕ) → OneOf n after → get_or (clauses ++ c ∷ []) n [] ≡ get_or clauses n []
   same n h = get_or_append_left clauses (c ∷ []) [] n (s.in_range n (sifts.only n h).0)
 
-  isin : Member c (picked (clauses ++ c ∷ []) (after ++ length clauses ∷ []))
-  isin = subst (λ q. Member q (picked (clauses ++ c ∷ []) (after ++ length clauses ∷ []))) (get_last clauses c)
+  isin : OneOf c (picked (clauses ++ c ∷ []) (after ++ length clauses ∷ []))
+  isin = subst (λ q. OneOf q (picked (clauses ++ c ∷ []) (after ++ length clauses ∷ []))) (get_last clauses c)
       (picked_in (clauses ++ c ∷ []) (after ++ length clauses ∷ []) (length clauses) (member_right (length clauses) after (length clauses ∷ []) (inl refl)))
 
-  from : (d : List Elem) → Member d (picked (clauses ++ c ∷ []) (after ++ length clauses ∷ [])) → (d ≡ c) ⊎ ((n : ℕ) × Member n after × (d ≡ get_or clauses n []))
+  from : (d : List Elem) → OneOf d (picked (clauses ++ c ∷ []) (after ++ length clauses ∷ [])) → (d ≡ c) ⊎ ((n : ℕ) × OneOf n after × (d ≡ get_or clauses n []))
   from d h =
       let r = picked_from (clauses ++ c ∷ []) (after ++ length clauses ∷ []) d h in
       elim (member_cases r.0 after (length clauses ∷ []) r.1) [
@@ -63,24 +63,24 @@ module _ (clauses : List (List Elem)) (live after : List ℕ) (c : List Elem) (s
   pub is_added : IsAdded c (picked clauses live) (picked (clauses ++ c ∷ []) (after ++ length clauses ∷ []))
   is_added = record {
     isin = isin;
-    only = λ d h. elim (from d h) [ inl e ↦ inl e | inr r ↦ inr (subst (λ q. Member q (picked clauses live)) (sym r.2) (picked_in clauses live r.0 (sifts.only r.0 r.1).0)) ];
+    only = λ d h. elim (from d h) [ inl e ↦ inl e | inr r ↦ inr (subst (λ q. OneOf q (picked clauses live)) (sym r.2) (picked_in clauses live r.0 (sifts.only r.0 r.1).0)) ];
     kept = λ d h. let r = picked_from clauses live d h in elim (sifts.kept r.0 r.1) [
-      | inl k ↦ inl (subst (λ q. Member q (picked (clauses ++ c ∷ []) (after ++ length clauses ∷ []))) (same r.0 k ∙ sym r.2)
+      | inl k ↦ inl (subst (λ q. OneOf q (picked (clauses ++ c ∷ []) (after ++ length clauses ∷ []))) (same r.0 k ∙ sym r.2)
           (picked_in (clauses ++ c ∷ []) (after ++ length clauses ∷ []) r.0 (member_left r.0 after (length clauses ∷ []) k)))
       | inr w ↦ inr (subst (λ q. Within c q) (sym r.2) w)
     ];
   }
 
-  pub supersets_die : (d : List Elem) → Member d (picked (clauses ++ c ∷ []) (after ++ length clauses ∷ [])) → Within c d → d ≡ c
+  pub supersets_die : (d : List Elem) → OneOf d (picked (clauses ++ c ∷ []) (after ++ length clauses ∷ [])) → Within c d → d ≡ c
   supersets_die d h w = elim (from d h) [ inl e ↦ e | inr r ↦ absurd ((sifts.only r.0 r.1).1 (subst (λ q. Within c q) r.2 w)) ]
 
-  only_last : (n : ℕ) → Member n (length clauses ∷ []) → n ≡ length clauses
+  only_last : (n : ℕ) → OneOf n (length clauses ∷ []) → n ≡ length clauses
   only_last n h = elim h [ inl e ↦ e | inr z ↦ absurd z ]
 
-  last_is : (n : ℕ) → Member n (length clauses ∷ []) → get_or (clauses ++ c ∷ []) n [] ≡ c
+  last_is : (n : ℕ) → OneOf n (length clauses ∷ []) → get_or (clauses ++ c ∷ []) n [] ≡ c
   last_is n h = ap (λ k. get_or (clauses ++ c ∷ []) k []) (only_last n h) ∙ get_last clauses c
 
-  between : (m k : ℕ) → Member m after ⊎ Member m (length clauses ∷ []) → Member k after ⊎ Member k (length clauses ∷ []) → Within (get_or (clauses ++ c ∷ []) m []) (get_or (clauses ++ c ∷ []) k []) → m ≡ k
+  between : (m k : ℕ) → OneOf m after ⊎ OneOf m (length clauses ∷ []) → OneOf k after ⊎ OneOf k (length clauses ∷ []) → Within (get_or (clauses ++ c ∷ []) m []) (get_or (clauses ++ c ∷ []) k []) → m ≡ k
   between m k (inl a) (inl b) w = s.minimal m k (sifts.only m a).0 (sifts.only k b).0 (subst (λ q. Within q (get_or clauses k [])) (same m a) (subst (λ q. Within (get_or (clauses ++ c ∷ []) m []) q) (same k b) w))
   between m k (inl a) (inr b) w =
       absurd (free (get_or clauses m [], picked_in clauses live m (sifts.only m a).0, subst (λ q. Within q c) (same m a) (subst (λ q. Within (get_or (clauses ++ c ∷ []) m []) q) (last_is k b) w)))

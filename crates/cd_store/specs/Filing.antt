@@ -1,6 +1,6 @@
 -- Numbers of clauses, filed by what the clauses have.
 use Rattle.std.specs.Prelude.{ℕ, ◌<◌, ◌⊎◌, ◌+◌, ◌*◌, ◌%◌, cond, nat_eq, List, [], ◌∷◌, length, map, slice_index_or}
-use Rattle.cd_base.specs.Lists.{Member}
+use Rattle.cd_base.specs.Lists.{OneOf}
 use Rattle.cd_base.specs.Keys.{folded}
 use Rattle.cd_clause.specs.declared.elem.Elem.{Elem}
 use Rattle.cd_clause.specs.declared.elem.Elem.TheVariants.{Plain, Exist}
@@ -28,8 +28,8 @@ existentials = 2199023255552
 
 -- the clause's number is in this list of one of its elements, and in that of all existentials where the element is one
 abbrev pub IsUnder : List (ℕ × List ℕ) → ℕ → ℕ → Elem → Type 0
-IsUnder f n q (Plain a) = Member n (listed f q)
-IsUnder f n q (Exist r k) = Member n (listed f q) × Member n (listed f existentials)
+IsUnder f n q (Plain a) = OneOf n (listed f q)
+IsUnder f n q (Exist r k) = OneOf n (listed f q) × OneOf n (listed f existentials)
 
 -- the clause's number is filed under each of its elements, and under the last one apart
 abbrev pub IsFiled : List (ℕ × List ℕ) → ℕ → List Elem → Type 0
@@ -43,7 +43,7 @@ keys_of f = map (λ p. p.0) f
 
 -- one of the two lists of the number has something
 abbrev pub HasList : List (ℕ × List ℕ) → ℕ → Type 0
-HasList f a = (n : ℕ) × (Member n (listed f (a * 2)) ⊎ Member n (listed f (a * 2 + 1)))
+HasList f a = (n : ℕ) × (OneOf n (listed f (a * 2)) ⊎ OneOf n (listed f (a * 2 + 1)))
 
 -- each stored clause is filed
 abbrev pub AreFiled : List (ℕ × List ℕ) → List (List Elem) → Type 0
@@ -51,4 +51,4 @@ AreFiled f clauses = (n : ℕ) → n < length clauses → IsFiled f n (slice_ind
 
 -- nothing that was filed is lost
 abbrev pub KeepsFiled : List (ℕ × List ℕ) → List (ℕ × List ℕ) → Type 0
-KeepsFiled old new = (q n : ℕ) → Member n (listed old q) → Member n (listed new q)
+KeepsFiled old new = (q n : ℕ) → OneOf n (listed old q) → OneOf n (listed new q)

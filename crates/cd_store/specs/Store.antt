@@ -1,7 +1,7 @@
 -- The clauses of one context, by number, and the numbers of the live ones.
 use Rattle.std.specs.Prelude.{◌≡◌, ℕ, ◌<◌, ◌≤◌, ◌⊎◌, List, [], ◌∷◌, ◌++◌, length, slice_index_or, reverse}
 use Rattle.cd_clause.specs.declared.elem.Elem.{Elem}
-use Rattle.cd_base.specs.Lists.{Member, Within}
+use Rattle.cd_base.specs.Lists.{OneOf, Within}
 use Rattle.cd_clause.specs.Derivations.{Redundant}
 use Rattle.cd_clause.specs.Numbers.{picked}
 use Rattle.cd_store.specs.declared.store.Added.{Added}
@@ -10,35 +10,35 @@ use Rattle.cd_store.specs.declared.store.Added.TheVariants.{New, Held}
 -- each number is below all that follow it
 abbrev pub IsAscending : List ℕ → Type 0
 IsAscending [] = Unit {0}
-IsAscending (n ∷ ns) = ((m : ℕ) → Member m ns → n < m) × IsAscending ns
+IsAscending (n ∷ ns) = ((m : ℕ) → OneOf m ns → n < m) × IsAscending ns
 
 -- no clause contains an earlier one, the newest first
 abbrev pub ContainsNoEarlier : List (List Elem) → Type 0
 ContainsNoEarlier [] = Unit {0}
-ContainsNoEarlier (c ∷ cs) = ((d : List Elem) → Member d cs → Within d c → ⊥) × ContainsNoEarlier cs
+ContainsNoEarlier (c ∷ cs) = ((d : List Elem) → OneOf d cs → Within d c → ⊥) × ContainsNoEarlier cs
 
 -- what a store keeps: live numbers are those of clauses and ascend, no live clause contains another, and no clause one of a lower number
 pub record IsStore (clauses : List (List Elem)) (live : List ℕ) : Type 0 where
-  pub in_range : (n : ℕ) → Member n live → n < length clauses
+  pub in_range : (n : ℕ) → OneOf n live → n < length clauses
   pub ascends : IsAscending live
   -- each stored clause has a live subset
-  pub covered : (c : List Elem) → Member c clauses → Redundant (picked clauses live) c
+  pub covered : (c : List Elem) → OneOf c clauses → Redundant (picked clauses live) c
   pub apart : ContainsNoEarlier (reverse clauses)
   -- no live clause contains another
-  pub minimal : (m k : ℕ) → Member m live → Member k live → Within (slice_index_or clauses m []) (slice_index_or clauses k []) → m ≡ k
+  pub minimal : (m k : ℕ) → OneOf m live → OneOf k live → Within (slice_index_or clauses m []) (slice_index_or clauses k []) → m ≡ k
 
 -- the least of the live numbers whose clauses are subsets of this clause
 pub record IsHeld (clauses : List (List Elem)) (live : List ℕ) (clause : List Elem) (i : ℕ) : Type 0 where
-  pub isin : Member i live
+  pub isin : OneOf i live
   pub within : Within (slice_index_or clauses i []) clause
-  pub least : (j : ℕ) → Member j live → Within (slice_index_or clauses j []) clause → i ≤ j
+  pub least : (j : ℕ) → OneOf j live → Within (slice_index_or clauses j []) clause → i ≤ j
 
 -- `after` is what is live once `new` was added to what was live before: the new one is in, what is live is the new one or was live,
 -- and what was live is live or contains the new one
 pub record IsAdded (new : List Elem) (before after : List (List Elem)) : Type 0 where
-  pub isin : Member new after
-  pub only : (c : List Elem) → Member c after → (c ≡ new) ⊎ Member c before
-  pub kept : (c : List Elem) → Member c before → Member c after ⊎ Within new c
+  pub isin : OneOf new after
+  pub only : (c : List Elem) → OneOf c after → (c ≡ new) ⊎ OneOf c before
+  pub kept : (c : List Elem) → OneOf c before → OneOf c after ⊎ Within new c
 
 -- the clause is stored under the next number, live, and its live supersets are dead
 pub record IsNew (old : List (List Elem) × List ℕ) (clause : List Elem) (new : List (List Elem) × List ℕ) (n : ℕ) : Type 0 where
@@ -48,9 +48,9 @@ pub record IsNew (old : List (List Elem) × List ℕ) (clause : List Elem) (new 
   pub stored : new.0 ≡ old.0 ++ clause ∷ []
   pub added : IsAdded clause (picked old.0 old.1) (picked new.0 new.1)
   -- what is live is the new number, or was live
-  pub numbers : (m : ℕ) → Member m new.1 → (m ≡ n) ⊎ (Member m old.1 × (m < length old.0))
+  pub numbers : (m : ℕ) → OneOf m new.1 → (m ≡ n) ⊎ (OneOf m old.1 × (m < length old.0))
   -- no superset of the new clause is live
-  pub supersets : (c : List Elem) → Member c (picked new.0 new.1) → Within clause c → c ≡ clause
+  pub supersets : (c : List Elem) → OneOf c (picked new.0 new.1) → Within clause c → c ≡ clause
   -- no live clause was a subset of it
   pub not_held : Redundant (picked old.0 old.1) clause → ⊥
 

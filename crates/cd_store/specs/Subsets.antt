@@ -1,11 +1,11 @@
 -- The search for the least live subset of a clause.
 use Rattle.std.specs.Prelude.{ℕ, ◌≤◌, Option, None, Some, List, [], slice_index_or}
-use Rattle.cd_base.specs.Lists.{Member, Within}
+use Rattle.cd_base.specs.Lists.{OneOf, Within}
 use Rattle.cd_clause.specs.declared.elem.Elem.{Elem}
 
 -- the number is live, and its clause is a subset of this clause
 pub record IsSubset (clauses : List (List Elem)) (live : List ℕ) (clause : List Elem) (n : ℕ) : Type 0 where
-  pub isin : Member n live
+  pub isin : OneOf n live
   pub within : Within (slice_index_or clauses n []) clause
 
 -- the number that was found, if one was, is that of a live subset

@@ -1,6 +1,6 @@
 //! The clauses that are stored, by what they have.
 ghost use Rattle.std.specs.Prelude.{◌≡◌, ◌<◌, ℕ, [], cond, length, slice_index_or, OnOk};
-ghost use Rattle.cd_base.specs.Lists.{Member};
+ghost use Rattle.cd_base.specs.Lists.{OneOf};
 ghost use Rattle.cd_clause.specs.declared.elem.Elem.TheVariants.{Exist, Plain};
 ghost use Rattle.cd_store.specs.Filing.{ends_in, existentials, filed_under, goes_on_from, keys_of, listed, HasList, IsFiled, IsUnder, KeepsFiled};
 ghost use Rattle.cd_store.specs.LookUps.{Gains};
@@ -88,7 +88,7 @@ impl Filing {
 
     /// Files the number of a clause under this key. One look-up.
     fn file_under(&mut self, alloc: Global, key: u64, number: usize) -> Result<(), Memory>
-        ensures filed { OnOk result (Member number (listed self.new key)) }
+        ensures filed { OnOk result (OneOf number (listed self.new key)) }
         ensures kept { KeepsFiled self.old self.new }
     {
         match self.by_element.get_mut(&key) {
@@ -105,7 +105,7 @@ impl Filing {
     /// Files the number of a clause under a key that has no list yet. One look-up.
     fn file_first(&mut self, alloc: Global, key: u64, number: usize) -> Result<(), Memory>
         requires { listed self.old key ≡ [] }
-        ensures filed { OnOk result (Member number (listed self.new key)) }
+        ensures filed { OnOk result (OneOf number (listed self.new key)) }
         ensures kept { KeepsFiled self.old self.new }
     {
         let mut list = SmallVec::new(alloc);

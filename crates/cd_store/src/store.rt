@@ -1,6 +1,6 @@
 //! The store of a context.
 ghost use Rattle.std.specs.Prelude.{◌≡◌, ◌<◌, ◌↔◌, ◌∷◌, ◌++◌, ◌⊎◌, ℕ, List, [], length, true, IfOk, IfSome, OnOk, OnErr, reverse};
-ghost use Rattle.cd_base.specs.Lists.{Member};
+ghost use Rattle.cd_base.specs.Lists.{OneOf};
 ghost use Rattle.cd_clause.specs.declared.elem.Elem.{Elem};
 ghost use Rattle.cd_clause.specs.declared.elem.Elem.TheVariants.{Exist, Plain};
 ghost use Rattle.cd_store.specs.Filing.{AreFiled};
@@ -79,7 +79,7 @@ impl Store {
 
     /// Whether the number is that of a live clause. Logarithmic in the live ones.
     pub fn is_live(&self, number: usize) -> bool
-        ensures { (result ≡ true) ↔ Member number self.now.1 }
+        ensures { (result ≡ true) ↔ OneOf number self.now.1 }
     {
         is_among(&self.live, number)
     }
@@ -157,7 +157,7 @@ impl Store {
     /// Numbers, those of all atoms of stored clauses among them, each at most twice; `None` where there are more than `at_most` of them, which
     /// is a matter of cost alone. Linear in them.
     pub fn atom_numbers(&self, alloc: Global, at_most: usize) -> Result<Option<Vec<u64>>, Memory>
-        ensures { IfOk result (λ some. IfSome some (λ numbers. (a n : ℕ) → HasElem self.now.0 (Plain a) n → Member a numbers.items)) }
+        ensures { IfOk result (λ some. IfSome some (λ numbers. (a n : ℕ) → HasElem self.now.0 (Plain a) n → OneOf a numbers.items)) }
     {
         if self.filing.count() > at_most {
             return Ok(None);
@@ -205,7 +205,7 @@ fn live_supersets(
 ) -> Result<Vec<usize>, Memory>
     requires store { IsStore clauses.now live.now }
     requires filed { AreFiled filing.now clauses.now }
-    ensures { IfOk result (λ dead. (n : ℕ) → Member n dead.items ↔ IsSuperset clauses.now live.now clause.now n) }
+    ensures { IfOk result (λ dead. (n : ℕ) → OneOf n dead.items ↔ IsSuperset clauses.now live.now clause.now n) }
 {
     let mut dead = Vec::new(alloc);
     match clause.elems().last() {
@@ -228,8 +228,8 @@ fn push_supersets(
     found: &mut Vec<usize>,
 ) -> Result<(), Memory>
     requires { IsStore clauses.now live.now }
-    ensures every { OnOk result (Gains (λ n. Member n numbers.now × IsSuperset clauses.now live.now clause.now n) found.old.items found.new.items) }
-    ensures only { OnOk result ((n : ℕ) → Member n found.new.items → Member n found.old.items ⊎ IsSuperset clauses.now live.now clause.now n) }
+    ensures every { OnOk result (Gains (λ n. OneOf n numbers.now × IsSuperset clauses.now live.now clause.now n) found.old.items found.new.items) }
+    ensures only { OnOk result ((n : ℕ) → OneOf n found.new.items → OneOf n found.old.items ⊎ IsSuperset clauses.now live.now clause.now n) }
 {
     'numbers: for i in 0..numbers.len() {
         let number = numbers[i];
@@ -259,8 +259,8 @@ fn sift(
     clause: &Clause,
     dead: &[usize],
 ) -> Result<Vec<usize>, Memory>
-    requires range { (n : ℕ) → Member n live.now → n < length clauses.now }
-    requires dead { (n : ℕ) → Member n dead.now ↔ IsSuperset clauses.now live.now clause.now n }
+    requires range { (n : ℕ) → OneOf n live.now → n < length clauses.now }
+    requires dead { (n : ℕ) → OneOf n dead.now ↔ IsSuperset clauses.now live.now clause.now n }
     ensures { IfOk result (λ after. Leaves dead.now live.now after.items) }
 {
     let mut after = Vec::with_capacity(alloc, live.len())?;
@@ -282,9 +282,9 @@ fn is_dead(
     number: usize,
 ) -> bool
     requires range { number < length clauses.now }
-    requires live { Member number live.now }
-    requires dead { (n : ℕ) → Member n dead.now ↔ IsSuperset clauses.now live.now clause.now n }
-    ensures { (result ≡ true) ↔ Member number dead.now }
+    requires live { OneOf number live.now }
+    requires dead { (n : ℕ) → OneOf n dead.now ↔ IsSuperset clauses.now live.now clause.now n }
+    ensures { (result ≡ true) ↔ OneOf number dead.now }
 {
     if dead.len() <= FEW {
         return dead.contains(&number);

@@ -1,6 +1,6 @@
 //! The search for live subsets of a clause.
 ghost use Rattle.std.specs.Prelude.{◌≡◌, ◌↔◌, ◌<◌, ℕ, [], true, slice_index_or, MatchOption};
-ghost use Rattle.cd_base.specs.Lists.{Member};
+ghost use Rattle.cd_base.specs.Lists.{OneOf};
 ghost use Rattle.cd_clause.specs.declared.elem.Elem.{Elem};
 ghost use Rattle.cd_clause.specs.Derivations.{Redundant};
 ghost use Rattle.cd_clause.specs.Numbers.{picked};
@@ -32,7 +32,7 @@ pub(crate) fn find_subset(
 fn first_subset(clauses: &[Clause], live: &[usize], clause: &Clause) -> Option<usize>
     requires { IsStore clauses.now live.now }
     ensures holds { HoldsSubset clauses.now live.now clause.now result }
-    ensures empty { (n : ℕ) → Member n live.now → slice_index_or clauses.now n [] ≡ [] → IsAtMost result n }
+    ensures empty { (n : ℕ) → OneOf n live.now → slice_index_or clauses.now n [] ≡ [] → IsAtMost result n }
 {
     match live {
         [] => None,
@@ -52,7 +52,7 @@ fn least_by_elems(
     requires holds { HoldsSubset clauses.now live.now clause.now found }
     ensures holds { HoldsSubset clauses.now live.now clause.now result }
     ensures lower { (n : ℕ) → IsAtMost found n → IsAtMost result n }
-    ensures covers { (e : Elem) (n : ℕ) → Member e clause.now → Member n (listed filing.now (ends_in e)) → IsSubset clauses.now live.now clause.now n → IsAtMost result n }
+    ensures covers { (e : Elem) (n : ℕ) → OneOf e clause.now → OneOf n (listed filing.now (ends_in e)) → IsSubset clauses.now live.now clause.now n → IsAtMost result n }
 {
     let mut least = found;
     let mut rest = clause.elems();
@@ -75,7 +75,7 @@ fn least_among(
     requires holds { HoldsSubset clauses.now live.now clause.now found }
     ensures holds { HoldsSubset clauses.now live.now clause.now result }
     ensures lower { (n : ℕ) → IsAtMost found n → IsAtMost result n }
-    ensures covers { (n : ℕ) → Member n numbers.now → IsSubset clauses.now live.now clause.now n → IsAtMost result n }
+    ensures covers { (n : ℕ) → OneOf n numbers.now → IsSubset clauses.now live.now clause.now n → IsAtMost result n }
 {
     let mut least = found;
     let mut rest = numbers;
@@ -134,7 +134,7 @@ fn is_subset(clauses: &[Clause], live: &[usize], clause: &Clause, number: usize)
 /// Whether the number is one of these, which ascend. Logarithmic in them.
 pub(crate) fn is_among(live: &[usize], number: usize) -> bool
     requires { IsAscending live.now }
-    ensures { (result ≡ true) ↔ Member number live.now }
+    ensures { (result ≡ true) ↔ OneOf number live.now }
 {
     live.binary_search(&number).is_ok()
 }

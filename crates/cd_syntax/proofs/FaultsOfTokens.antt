@@ -7,14 +7,14 @@ use Rattle.cd_syntax.specs.declared.cause.Cause.{Cause}
 use Rattle.cd_syntax.specs.declared.cause.Cause.TheVariants.{Construct, Prefix, Depth, Syntax}
 use Rattle.cd_syntax.specs.declared.item.Item.{Item}
 use Rattle.cd_syntax.specs.declared.known.Known.{Known}
-use Rattle.cd_syntax.specs.declared.words.Key.{Key}
+use Rattle.cd_syntax.specs.declared.words.Keyword.{Keyword}
 use Rattle.cd_syntax.specs.Fault.{Next, Token, End, Bad, IsFront, GoesOn, IsBehind, IsNoRole, IsConstruct, IsUnknown, IsClash, IsCause, IsFault}
 use Rattle.cd_syntax.specs.Grammar.{Wanted, PrefixIri, RoleOf, Text, Means, Leads, IsWhole, begun, nesting, top_role, bottom_role}
 use Rattle.cd_syntax.proofs.ItemFault.{IsFront as IsItemFront, IsBehind as IsItemBehind, IsNoRole as IsItemNoRole, IsRefused as IsItemRefused, IsUnknown as IsItemUnknown, IsClash as IsItemClash, IsCause as IsItemCause}
 use Rattle.cd_syntax.proofs.ItemGrammar.{Wanted as ItemWanted, Means as ItemMeans, Leads as ItemLeads, IsWhole as IsItemWhole}
 use Rattle.cd_syntax.specs.Items.{item_of}
 use Rattle.cd_syntax.proofs.ItemsOfTokens.{item_wanted, Agree, means_to}
-use Rattle.cd_syntax.proofs.Keys.{refused_key, says_key}
+use Rattle.cd_syntax.proofs.Keywords.{refused_key, says_key}
 use Rattle.cd_syntax.proofs.TokensOfItems.{exact_kind, word_kind, means_back, no_end, no_bad, forward, backward, completed}
 
 -- ---- derivations in parts
@@ -203,7 +203,7 @@ construct_to front next number (inr (kind, is, no_role)) =
 
 construct_back : (front : List Kind) (next : Next) (number : ℕ) → IsItemRefused (map item_of front) (next_item next) number → IsConstruct front next number
 construct_back front (Token kind) number (inl is) =
-    let (v, is_word, keyed) = word_kind kind (Key.Refused number) is in inl (v, ap Token is_word, says_key v (Key.Refused number) keyed)
+    let (v, is_word, keyed) = word_kind kind (Keyword.Refused number) is in inl (v, ap Token is_word, says_key v (Keyword.Refused number) keyed)
 construct_back front (Token kind) number (inr no_role) = inr (kind, refl, no_role_back front kind number no_role)
 construct_back front End number (inl is) = absurd cc
 construct_back front End number (inr (known, role, items, behind, inl m)) = absurd m.0

@@ -6,7 +6,7 @@ use Rattle.cd_syntax.specs.declared.cause.Cause.TheVariants.{Construct, Prefix, 
 use Rattle.cd_syntax.specs.declared.item.Item.{Item}
 use Rattle.cd_syntax.specs.declared.item.Item.TheVariants.{Word, Short, FullIri}
 use Rattle.cd_syntax.specs.declared.known.Known.{Known}
-use Rattle.cd_syntax.specs.declared.words.Key.{Key}
+use Rattle.cd_syntax.specs.declared.words.Keyword.{Keyword}
 use Rattle.cd_syntax.specs.Grammar.{begun, nesting, top_role, bottom_role}
 use Rattle.cd_syntax.proofs.ItemGrammar.{Wanted, PrefixIri, RoleOf, Text, Means, Leads}
 
@@ -24,8 +24,8 @@ IsNoRole front item number = (known : Known) × (role : ℕ) × (wanted : List W
     × ((Means known item top_role × (number ≡ 45)) ⊎ (Means known item bottom_role × (number ≡ 46)))
 
 -- the item is a refused construct: its word, or a role that is none
-abbrev pub IsRefused : List Item → Item → ℕ → Type 0
-IsRefused front item number = (item ≡ Word (Key.Refused number)) ⊎ IsNoRole front item number
+abbrev pub IsRefusedConstruct : List Item → Item → ℕ → Type 0
+IsRefusedConstruct front item number = (item ≡ Word (Keyword.Refused number)) ⊎ IsNoRole front item number
 
 -- the item is a short name whose prefix isn't declared
 abbrev pub IsUnknown : List Item → Item → Type 0
@@ -43,12 +43,12 @@ IsDeep front item = IsFront (suc nesting) (front ++ item ∷ [])
 
 -- of an item at fault, the first cause that fits
 abbrev pub IsCause : List Item → Item → Cause → Type 0
-IsCause front item (Construct number) = IsRefused front item number
-IsCause front item Prefix = ((number : ℕ) → IsRefused front item number → ⊥) × (IsUnknown front item ⊎ IsClash front item)
+IsCause front item (Construct number) = IsRefusedConstruct front item number
+IsCause front item Prefix = ((number : ℕ) → IsRefusedConstruct front item number → ⊥) × (IsUnknown front item ⊎ IsClash front item)
 IsCause front item Depth =
-    ((number : ℕ) → IsRefused front item number → ⊥) × (IsUnknown front item → ⊥) × (IsClash front item → ⊥) × IsDeep front item
+    ((number : ℕ) → IsRefusedConstruct front item number → ⊥) × (IsUnknown front item → ⊥) × (IsClash front item → ⊥) × IsDeep front item
 IsCause front item Syntax =
-    ((number : ℕ) → IsRefused front item number → ⊥) × (IsUnknown front item → ⊥) × (IsClash front item → ⊥) × (IsDeep front item → ⊥)
+    ((number : ℕ) → IsRefusedConstruct front item number → ⊥) × (IsUnknown front item → ⊥) × (IsClash front item → ⊥) × (IsDeep front item → ⊥)
 
 -- the front is one of a document's, no document has the item behind it, and that is the cause
 abbrev pub IsFault : List Item → Item → Cause → Type 0

@@ -11,7 +11,7 @@ use Rattle.cd_syntax.specs.declared.known.Known.{Known}
 use Rattle.cd_syntax.specs.declared.words.AxiomForm.{AxiomForm}
 use Rattle.cd_syntax.specs.declared.words.ExprForm.{ExprForm}
 use Rattle.cd_syntax.specs.declared.words.Form.{Form}
-use Rattle.cd_syntax.specs.declared.words.Key.{Key}
+use Rattle.cd_syntax.specs.declared.words.Keyword.{Keyword}
 use Rattle.cd_syntax.specs.Grammar.{begun, with_prefix, with_class, with_role, with_axiom, top_role, bottom_role, nesting}
 use Rattle.cd_syntax.specs.Operands.{axiom_of, expression_of, has_class_head}
 
@@ -33,13 +33,13 @@ pub data Wanted : Type 0 where
   -- what the lines below say
   Text : Wanted
   OntologyIri : Wanted
-  Notes : Wanted
+  Annotations : Wanted
   Axioms : Wanted
   DeclarationIn : Wanted
   AssertionIn : Wanted
   AnnotationAxiomIn : Wanted
   AxiomIn : AxiomForm → Axiom → Wanted
-  NoteIn : ℕ → Wanted
+  AnnotationIn : ℕ → Wanted
   Value : Wanted
   ExprOf : ℕ → Expr → Wanted
 
@@ -74,13 +74,13 @@ Stands known other item after = ⊥
 -- ---- the lines of the grammar
 
 -- a word, a parenthesis, and what is wanted behind it
-abbrev pub opened : Key → List Wanted → List Wanted
+abbrev pub opened : Keyword → List Wanted → List Wanted
 opened key inner = Exact (Word key) ∷ Exact Item.Opening ∷ inner
 
 -- an annotation, within which one less than so many may stand inside each other, and then this
-abbrev pub IsNoted : ℕ → Wanted → List Wanted → Type 0
-IsNoted zero s parts = ⊥
-IsNoted (suc n) s parts = parts ≡ opened Key.Annotation (NoteIn n ∷ s ∷ [])
+abbrev pub IsAnnotated : ℕ → Wanted → List Wanted → Type 0
+IsAnnotated zero s parts = ⊥
+IsAnnotated (suc n) s parts = parts ≡ opened Keyword.Annotation (AnnotationIn n ∷ s ∷ [])
 
 -- a role, or the class that the form has in its place
 abbrev pub head_of : Form → ℕ → Wanted
@@ -98,31 +98,31 @@ IsMade form a = (heads : List ℕ) × (inner : List Expr) × (axiom_of form head
 abbrev pub IsBuilt : ℕ → Expr → List Wanted → Type 0
 IsBuilt zero e parts = ⊥
 IsBuilt (suc n) e parts = (form : ExprForm) × (roles : List ℕ) × (inner : List Expr) × (expression_of form roles inner ≡ Some e)
-    × (parts ≡ opened (Key.Expr form) (operands (Form.Expr form) n roles inner ++ Exact Item.Closing ∷ []))
+    × (parts ≡ opened (Keyword.Expr form) (operands (Form.Expr form) n roles inner ++ Exact Item.Closing ∷ []))
 
 -- the parts are a line of what is wanted. At most `most` annotations, and as many constructors, stand inside each other.
 abbrev pub Line : ℕ → Wanted → List Wanted → Type 0
 Line most Text parts =
-    ((p : List ℕ) × (parts ≡ opened Key.Prefix (Exact (Short p []) ∷ Exact Item.Equals ∷ PrefixIri p ∷ Exact Item.Closing ∷ Text ∷ [])))
-    ⊎ (parts ≡ opened Key.Ontology (OntologyIri ∷ []))
-Line most OntologyIri parts = (parts ≡ Notes ∷ []) ⊎ (parts ≡ AnyIri ∷ Notes ∷ []) ⊎ (parts ≡ AnyIri ∷ AnyIri ∷ Notes ∷ [])
-Line most Notes parts = IsNoted most Notes parts ⊎ (parts ≡ Axioms ∷ [])
+    ((p : List ℕ) × (parts ≡ opened Keyword.Prefix (Exact (Short p []) ∷ Exact Item.Equals ∷ PrefixIri p ∷ Exact Item.Closing ∷ Text ∷ [])))
+    ⊎ (parts ≡ opened Keyword.Ontology (OntologyIri ∷ []))
+Line most OntologyIri parts = (parts ≡ Annotations ∷ []) ⊎ (parts ≡ AnyIri ∷ Annotations ∷ []) ⊎ (parts ≡ AnyIri ∷ AnyIri ∷ Annotations ∷ [])
+Line most Annotations parts = IsAnnotated most Annotations parts ⊎ (parts ≡ Axioms ∷ [])
 Line most Axioms parts =
-    (parts ≡ opened Key.Declaration (DeclarationIn ∷ Axioms ∷ []))
-    ⊎ ((form : AxiomForm) × (a : Axiom) × IsMade form a × (parts ≡ opened (Key.Axiom form) (AxiomIn form a ∷ Axioms ∷ [])))
-    ⊎ (parts ≡ opened Key.AnnotationAssertion (AssertionIn ∷ Axioms ∷ []))
-    ⊎ (parts ≡ opened Key.AnnotationAxiom (AnnotationAxiomIn ∷ Axioms ∷ []))
+    (parts ≡ opened Keyword.Declaration (DeclarationIn ∷ Axioms ∷ []))
+    ⊎ ((form : AxiomForm) × (a : Axiom) × IsMade form a × (parts ≡ opened (Keyword.Axiom form) (AxiomIn form a ∷ Axioms ∷ [])))
+    ⊎ (parts ≡ opened Keyword.AnnotationAssertion (AssertionIn ∷ Axioms ∷ []))
+    ⊎ (parts ≡ opened Keyword.AnnotationAxiom (AnnotationAxiomIn ∷ Axioms ∷ []))
     ⊎ (parts ≡ Exact Item.Closing ∷ Exact Item.End ∷ [])
 Line most DeclarationIn parts =
-    IsNoted most DeclarationIn parts
-    ⊎ ((c : ℕ) × (parts ≡ opened Key.Class (ClassOf c ∷ Exact Item.Closing ∷ Exact Item.Closing ∷ [])))
-    ⊎ (parts ≡ opened Key.Entity (AnyIri ∷ Exact Item.Closing ∷ Exact Item.Closing ∷ []))
-Line most AssertionIn parts = IsNoted most AssertionIn parts ⊎ (parts ≡ AnyIri ∷ Subject ∷ Value ∷ Exact Item.Closing ∷ [])
-Line most AnnotationAxiomIn parts = IsNoted most AnnotationAxiomIn parts ⊎ (parts ≡ AnyIri ∷ AnyIri ∷ Exact Item.Closing ∷ [])
+    IsAnnotated most DeclarationIn parts
+    ⊎ ((c : ℕ) × (parts ≡ opened Keyword.Class (ClassOf c ∷ Exact Item.Closing ∷ Exact Item.Closing ∷ [])))
+    ⊎ (parts ≡ opened Keyword.Entity (AnyIri ∷ Exact Item.Closing ∷ Exact Item.Closing ∷ []))
+Line most AssertionIn parts = IsAnnotated most AssertionIn parts ⊎ (parts ≡ AnyIri ∷ Subject ∷ Value ∷ Exact Item.Closing ∷ [])
+Line most AnnotationAxiomIn parts = IsAnnotated most AnnotationAxiomIn parts ⊎ (parts ≡ AnyIri ∷ AnyIri ∷ Exact Item.Closing ∷ [])
 Line most (AxiomIn form a) parts =
-    IsNoted most (AxiomIn form a) parts
+    IsAnnotated most (AxiomIn form a) parts
     ⊎ ((heads : List ℕ) × (inner : List Expr) × (axiom_of form heads inner ≡ Some a) × (parts ≡ operands (Form.Axiom form) most heads inner ++ ClosingOf a ∷ []))
-Line most (NoteIn n) parts = IsNoted n (NoteIn n) parts ⊎ (parts ≡ AnyIri ∷ Value ∷ Exact Item.Closing ∷ [])
+Line most (AnnotationIn n) parts = IsAnnotated n (AnnotationIn n) parts ⊎ (parts ≡ AnyIri ∷ Value ∷ Exact Item.Closing ∷ [])
 Line most Value parts =
     (parts ≡ Subject ∷ [])
     ⊎ (parts ≡ Exact Item.Quoted ∷ [])

@@ -15,13 +15,13 @@ use Rattle.cd_syntax.specs.declared.words.AxiomForm.TheVariants.{SubClassOf, Equ
 use Rattle.cd_syntax.specs.declared.words.ExprForm.{ExprForm}
 use Rattle.cd_syntax.specs.declared.words.ExprForm.TheVariants.{ObjectIntersectionOf, ObjectUnionOf, ObjectComplementOf, ObjectSomeValuesFrom, ObjectAllValuesFrom}
 use Rattle.cd_syntax.specs.declared.words.Form.{Form}
-use Rattle.cd_syntax.specs.declared.words.Key.{Key}
-use Rattle.cd_syntax.specs.Grammar.{Wanted, Exact, AnyWord, AnyIri, Subject, PrefixIri, ClassOf, RoleOf, ClosingOf, Text, OntologyIri, Notes, Axioms, DeclarationIn, AssertionIn, AnnotationAxiomIn, AxiomIn, NoteIn, Value, ExprOf, Means, Stands, other_entities, annotation_axioms, axiom_form, IsForm}
+use Rattle.cd_syntax.specs.declared.words.Keyword.{Keyword}
+use Rattle.cd_syntax.specs.Grammar.{Wanted, Exact, AnyWord, AnyIri, Subject, PrefixIri, ClassOf, RoleOf, ClosingOf, Text, OntologyIri, Annotations, Axioms, DeclarationIn, AssertionIn, AnnotationAxiomIn, AxiomIn, AnnotationIn, Value, ExprOf, Means, Stands, other_entities, annotation_axioms, axiom_form, IsForm}
 use Rattle.cd_syntax.proofs.ItemGrammar.{Wanted as ItemWanted, Means as ItemMeans, Stands as ItemStands, operands}
 use Rattle.cd_syntax.specs.Items.{item_of}
 use Rattle.cd_syntax.specs.Operands.{axiom_of, expression_of}
 use Rattle.cd_syntax.specs.Words.{key_of}
-use Rattle.cd_syntax.proofs.Keys.{OneOf, one_of, axiom_word, expr_word, entity_key, annotation_axiom_key, says_key, only_word}
+use Rattle.cd_syntax.proofs.Keywords.{IsOneWordOf, one_of, axiom_word, expr_word, entity_key, annotation_axiom_key, says_key, only_word}
 
 -- ---- what is wanted
 
@@ -37,8 +37,8 @@ form_of (Domain r c) = ObjectPropertyDomain
 form_of (Range r c) = ObjectPropertyRange
 
 -- the key of each of the words
-abbrev pub any_key : List (List ℕ) → Key
-any_key [] = Key.Other
+abbrev pub any_key : List (List ℕ) → Keyword
+any_key [] = Keyword.Other
 any_key (w ∷ words) = key_of w
 
 -- the same is wanted of items
@@ -53,13 +53,13 @@ item_wanted (RoleOf r) = ItemWanted.RoleOf r
 item_wanted (ClosingOf a) = ItemWanted.ClosingOf a
 item_wanted Text = ItemWanted.Text
 item_wanted OntologyIri = ItemWanted.OntologyIri
-item_wanted Notes = ItemWanted.Notes
+item_wanted Annotations = ItemWanted.Annotations
 item_wanted Axioms = ItemWanted.Axioms
 item_wanted DeclarationIn = ItemWanted.DeclarationIn
 item_wanted AssertionIn = ItemWanted.AssertionIn
 item_wanted AnnotationAxiomIn = ItemWanted.AnnotationAxiomIn
 item_wanted (AxiomIn a) = ItemWanted.AxiomIn (form_of a) a
-item_wanted (NoteIn n) = ItemWanted.NoteIn n
+item_wanted (AnnotationIn n) = ItemWanted.AnnotationIn n
 item_wanted Value = ItemWanted.Value
 item_wanted (ExprOf n e) = ItemWanted.ExprOf n e
 
@@ -73,7 +73,7 @@ Fit (Exact (Word w)) = HasOwnKey w
 Fit (AnyWord words) = (words ≡ other_entities) ⊎ (words ≡ annotation_axioms)
 Fit Text = ⊥
 Fit OntologyIri = ⊥
-Fit Notes = ⊥
+Fit Annotations = ⊥
 Fit Axioms = ⊥
 Fit other = Unit {0}
 
@@ -81,7 +81,7 @@ Fit other = Unit {0}
 abbrev pub IsLast : Wanted → Type 0
 IsLast Text = Unit {0}
 IsLast OntologyIri = Unit {0}
-IsLast Notes = Unit {0}
+IsLast Annotations = Unit {0}
 IsLast Axioms = Unit {0}
 IsLast other = ⊥
 
@@ -106,22 +106,22 @@ agree-last front w fits last = agree-append front (w ∷ []) (item_wanted w ∷ 
 -- ---- words
 
 pub annotation_own : HasOwnKey (codes "Annotation")
-annotation_own v h = only_word (codes "Annotation") v (says_key v Key.Annotation h)
+annotation_own v h = only_word (codes "Annotation") v (says_key v Keyword.Annotation h)
 
 pub prefix_own : HasOwnKey (codes "Prefix")
-prefix_own v h = only_word (codes "Prefix") v (says_key v Key.Prefix h)
+prefix_own v h = only_word (codes "Prefix") v (says_key v Keyword.Prefix h)
 
 pub ontology_own : HasOwnKey (codes "Ontology")
-ontology_own v h = only_word (codes "Ontology") v (says_key v Key.Ontology h)
+ontology_own v h = only_word (codes "Ontology") v (says_key v Keyword.Ontology h)
 
 pub declaration_own : HasOwnKey (codes "Declaration")
-declaration_own v h = only_word (codes "Declaration") v (says_key v Key.Declaration h)
+declaration_own v h = only_word (codes "Declaration") v (says_key v Keyword.Declaration h)
 
 pub class_own : HasOwnKey (codes "Class")
-class_own v h = only_word (codes "Class") v (says_key v Key.Class h)
+class_own v h = only_word (codes "Class") v (says_key v Keyword.Class h)
 
 pub assertion_own : HasOwnKey (codes "AnnotationAssertion")
-assertion_own v h = only_word (codes "AnnotationAssertion") v (says_key v Key.AnnotationAssertion h)
+assertion_own v h = only_word (codes "AnnotationAssertion") v (says_key v Keyword.AnnotationAssertion h)
 
 -- ---- one token
 
@@ -131,9 +131,9 @@ means_to known (Short p l) iri m = m
 means_to known kind iri m = absurd m
 
 -- one of the words has their key
-any_key-is : (words : List (List ℕ)) (w : List ℕ) → Fit (AnyWord words) → OneOf words w → key_of w ≡ any_key words
-any_key-is words w (inl are) is = entity_key w (subst (λ (ws : List (List ℕ)). OneOf ws w) are is) ∙ ap any_key (sym are)
-any_key-is words w (inr are) is = annotation_axiom_key w (subst (λ (ws : List (List ℕ)). OneOf ws w) are is) ∙ ap any_key (sym are)
+any_key-is : (words : List (List ℕ)) (w : List ℕ) → Fit (AnyWord words) → IsOneWordOf words w → key_of w ≡ any_key words
+any_key-is words w (inl are) is = entity_key w (subst (λ (ws : List (List ℕ)). IsOneWordOf ws w) are is) ∙ ap any_key (sym are)
+any_key-is words w (inr are) is = annotation_axiom_key w (subst (λ (ws : List (List ℕ)). IsOneWordOf ws w) are is) ∙ ap any_key (sym are)
 
 -- the item of a token that stands at its place stands there
 pub stands_to : (known : Known) (w : Wanted) (kind : Kind) (after : Known) → Fit w → Stands known w kind after → ItemStands known (item_wanted w) (item_of kind) after
@@ -153,7 +153,7 @@ stands_to known w kind after fit stands = absurd stands
 pub no_last : (known : Known) (w : Wanted) (kind : Kind) (after : Known) → IsLast w → Stands known w kind after → ⊥
 no_last known Text kind after last stands = stands
 no_last known OntologyIri kind after last stands = stands
-no_last known Notes kind after last stands = stands
+no_last known Annotations kind after last stands = stands
 no_last known Axioms kind after last stands = stands
 no_last known w kind after last stands = last
 
@@ -176,7 +176,7 @@ roles_fit [] = tt
 roles_fit (r ∷ rs) = (tt, roles_fit rs)
 
 -- the word of an axiom has its key
-key_of_axiom : (form : AxiomForm) → key_of (axiom_word form) ≡ Key.Axiom form
+key_of_axiom : (form : AxiomForm) → key_of (axiom_word form) ≡ Keyword.Axiom form
 key_of_axiom SubClassOf = refl
 key_of_axiom EquivalentClasses = refl
 key_of_axiom DisjointClasses = refl
@@ -187,10 +187,10 @@ key_of_axiom ObjectPropertyDomain = refl
 key_of_axiom ObjectPropertyRange = refl
 
 axiom_own : (form : AxiomForm) → HasOwnKey (axiom_word form)
-axiom_own form v h = only_word (axiom_word form) v (says_key v (Key.Axiom form) (h ∙ key_of_axiom form))
+axiom_own form v h = only_word (axiom_word form) v (says_key v (Keyword.Axiom form) (h ∙ key_of_axiom form))
 
 -- the word of an expression has its key
-key_of_expr : (form : ExprForm) → key_of (expr_word form) ≡ Key.Expr form
+key_of_expr : (form : ExprForm) → key_of (expr_word form) ≡ Keyword.Expr form
 key_of_expr ObjectIntersectionOf = refl
 key_of_expr ObjectUnionOf = refl
 key_of_expr ObjectComplementOf = refl
@@ -198,7 +198,7 @@ key_of_expr ObjectSomeValuesFrom = refl
 key_of_expr ObjectAllValuesFrom = refl
 
 expr_own : (form : ExprForm) → HasOwnKey (expr_word form)
-expr_own form v h = only_word (expr_word form) v (says_key v (Key.Expr form) (h ∙ key_of_expr form))
+expr_own form v h = only_word (expr_word form) v (says_key v (Keyword.Expr form) (h ∙ key_of_expr form))
 
 -- ---- axioms
 
@@ -209,7 +209,7 @@ pub record IsAxiomForm (n : ℕ) (form : AxiomForm) (heads : List ℕ) (exprs : 
   pub written : axiom_form n a ≡ Some (word, inner)
   pub same : map item_wanted inner ≡ operands (Form.Axiom form) n heads exprs
   pub fits : AllFit inner
-  pub key : key_of word ≡ Key.Axiom form
+  pub key : key_of word ≡ Keyword.Axiom form
   pub own : HasOwnKey word
 
 abbrev HasTokens : ℕ → AxiomForm → List ℕ → List Expr → Axiom → Type 0
@@ -283,7 +283,7 @@ pub record IsExprForm (n : ℕ) (form : ExprForm) (roles : List ℕ) (exprs : Li
   pub written : IsForm n e word inner
   pub same : map item_wanted inner ≡ operands (Form.Expr form) n roles exprs
   pub fits : AllFit inner
-  pub key : key_of word ≡ Key.Expr form
+  pub key : key_of word ≡ Keyword.Expr form
   pub own : HasOwnKey word
 
 abbrev HasForm : ℕ → ExprForm → List ℕ → List Expr → Expr → Type 0

@@ -7,7 +7,7 @@ pub mod ItemFault
 pub mod ItemGrammar
 pub mod Items
 pub mod ItemsOfTokens
-pub mod Keys
+pub mod Keywords
 pub mod LinesOfTokens
 pub mod NoFault
 pub mod OperandNodes

@@ -7,31 +7,31 @@ use Rattle.cd_lex.specs.declared.token.Kind.TheVariants.{Word, Short}
 use Rattle.cd_syntax.specs.declared.item.Item.{Item}
 use Rattle.cd_syntax.specs.declared.words.AxiomForm.{AxiomForm}
 use Rattle.cd_syntax.specs.declared.words.Form.{Form}
-use Rattle.cd_syntax.specs.declared.words.Key.{Key}
-use Rattle.cd_syntax.specs.Grammar.{Wanted, Exact, AnyWord, AnyIri, Subject, PrefixIri, ClassOf, ClosingOf, Text, OntologyIri, Notes, Axioms, DeclarationIn, AssertionIn, AnnotationAxiomIn, AxiomIn, NoteIn, Value, ExprOf, opened, other_entities, annotation_axioms, IsNoted, Line}
-use Rattle.cd_syntax.proofs.ItemGrammar.{Wanted as ItemWanted, operands, opened as items_opened, IsNoted as IsItemNoted, Line as ItemLine}
+use Rattle.cd_syntax.specs.declared.words.Keyword.{Keyword}
+use Rattle.cd_syntax.specs.Grammar.{Wanted, Exact, AnyWord, AnyIri, Subject, PrefixIri, ClassOf, ClosingOf, Text, OntologyIri, Annotations, Axioms, DeclarationIn, AssertionIn, AnnotationAxiomIn, AxiomIn, AnnotationIn, Value, ExprOf, opened, other_entities, annotation_axioms, IsAnnotated, Line}
+use Rattle.cd_syntax.proofs.ItemGrammar.{Wanted as ItemWanted, operands, opened as items_opened, IsAnnotated as IsItemNoted, Line as ItemLine}
 use Rattle.cd_syntax.specs.Words.{key_of}
 use Rattle.cd_syntax.proofs.ItemsOfTokens.{item_wanted, Fit, IsLast, AllFit, Agree, agree-append, agree-last, annotation_own, prefix_own, ontology_own, declaration_own, class_own, assertion_own, form_of, axiom_to, axiom_back, expr_to, expr_back}
 
 -- ---- annotations
 
-noted_to : (n : ℕ) (w : Wanted) (parts : List Wanted) → IsNoted n w parts → IsItemNoted n (item_wanted w) (map item_wanted parts)
+noted_to : (n : ℕ) (w : Wanted) (parts : List Wanted) → IsAnnotated n w parts → IsItemNoted n (item_wanted w) (map item_wanted parts)
 noted_to zero w parts l = absurd l
 noted_to (suc n) w parts l = ap (map item_wanted) l
 
-noted_fit : (n : ℕ) (w : Wanted) (parts : List Wanted) → Fit w → IsNoted n w parts → AllFit parts
+noted_fit : (n : ℕ) (w : Wanted) (parts : List Wanted) → Fit w → IsAnnotated n w parts → AllFit parts
 noted_fit zero w parts fit l = absurd l
 noted_fit (suc n) w parts fit l = subst AllFit (sym l) (annotation_own, (tt, (tt, (fit, tt))))
 
-noted_agree : (n : ℕ) (w : Wanted) (parts : List Wanted) → IsLast w → IsNoted n w parts → Agree parts (map item_wanted parts)
+noted_agree : (n : ℕ) (w : Wanted) (parts : List Wanted) → IsLast w → IsAnnotated n w parts → Agree parts (map item_wanted parts)
 noted_agree zero w parts last l = absurd l
 noted_agree (suc n) w parts last l =
     subst (λ (ps : List Wanted). Agree ps (map item_wanted ps)) (sym l)
-    (agree-last (Exact (Word (codes "Annotation")) ∷ Exact Kind.Opening ∷ NoteIn n ∷ []) w (annotation_own, (tt, (tt, tt))) last)
+    (agree-last (Exact (Word (codes "Annotation")) ∷ Exact Kind.Opening ∷ AnnotationIn n ∷ []) w (annotation_own, (tt, (tt, tt))) last)
 
-noted_back : (n : ℕ) (w : Wanted) (items : List ItemWanted) → IsItemNoted n (item_wanted w) items → (parts : List Wanted) × IsNoted n w parts × (items ≡ map item_wanted parts)
+noted_back : (n : ℕ) (w : Wanted) (items : List ItemWanted) → IsItemNoted n (item_wanted w) items → (parts : List Wanted) × IsAnnotated n w parts × (items ≡ map item_wanted parts)
 noted_back zero w items l = absurd l
-noted_back (suc n) w items l = (opened (codes "Annotation") (NoteIn n ∷ w ∷ []), refl, l)
+noted_back (suc n) w items l = (opened (codes "Annotation") (AnnotationIn n ∷ w ∷ []), refl, l)
 
 -- ---- lines from tokens to items
 
@@ -49,7 +49,7 @@ with_end inner w parts items is same =
 pub line_to : (most : ℕ) (w : Wanted) (parts : List Wanted) → Fit w → Line most w parts → ItemLine most (item_wanted w) (map item_wanted parts) × AllFit parts
 line_to most Text parts fit l = absurd fit
 line_to most OntologyIri parts fit l = absurd fit
-line_to most Notes parts fit l = absurd fit
+line_to most Annotations parts fit l = absurd fit
 line_to most Axioms parts fit l = absurd fit
 line_to most DeclarationIn parts fit (inl l) = (inl (noted_to most DeclarationIn parts l), noted_fit most DeclarationIn parts fit l)
 line_to most DeclarationIn parts fit (inr (inl (c, is))) =
@@ -65,8 +65,8 @@ line_to most (AxiomIn a) parts fit (inr (word, inner, written, is)) =
       inr (heads, exprs, r.makes, with_end inner (ClosingOf a) parts (operands (Form.Axiom (form_of a)) most heads exprs) is r.same),
       subst AllFit (sym is) (all_fit-append inner (ClosingOf a ∷ []) r.fits (tt, tt)),
     )
-line_to most (NoteIn n) parts fit (inl l) = (inl (noted_to n (NoteIn n) parts l), noted_fit n (NoteIn n) parts fit l)
-line_to most (NoteIn n) parts fit (inr is) = (inr (ap (map item_wanted) is), subst AllFit (sym is) (tt, (tt, (tt, tt))))
+line_to most (AnnotationIn n) parts fit (inl l) = (inl (noted_to n (AnnotationIn n) parts l), noted_fit n (AnnotationIn n) parts fit l)
+line_to most (AnnotationIn n) parts fit (inr is) = (inr (ap (map item_wanted) is), subst AllFit (sym is) (tt, (tt, (tt, tt))))
 line_to most Value parts fit (inl is) = (inl (ap (map item_wanted) is), subst AllFit (sym is) (tt, tt))
 line_to most Value parts fit (inr (inl is)) = (inr (inl (ap (map item_wanted) is)), subst AllFit (sym is) (tt, tt))
 line_to most Value parts fit (inr (inr (inl is))) = (inr (inr (inl (ap (map item_wanted) is))), subst AllFit (sym is) (tt, (tt, tt)))
@@ -82,8 +82,8 @@ line_to most (ExprOf (suc n) e) parts fit (inr (word, inner, written, is)) =
         exprs,
         r.makes,
         ap (map item_wanted) is
-            ∙ ap (λ (key : Key). items_opened key (map item_wanted (inner ++ Exact Kind.Closing ∷ []))) r.key
-            ∙ ap (items_opened (Key.Expr form)) ends,
+            ∙ ap (λ (key : Keyword). items_opened key (map item_wanted (inner ++ Exact Kind.Closing ∷ []))) r.key
+            ∙ ap (items_opened (Keyword.Expr form)) ends,
       ),
       subst AllFit (sym is) (r.own, (tt, all_fit-append inner (Exact Kind.Closing ∷ []) r.fits (tt, tt))),
     )
@@ -95,7 +95,7 @@ line_to most w parts fit l = absurd l
 abbrev IsLineOf : ℕ → Wanted → List ItemWanted → Type 0
 IsLineOf most w items = (parts : List Wanted) × Line most w parts × (items ≡ map item_wanted parts)
 
-noted_line : (most n : ℕ) (w : Wanted) (items : List ItemWanted) → ((parts : List Wanted) → IsNoted n w parts → Line most w parts) → IsItemNoted n (item_wanted w) items
+noted_line : (most n : ℕ) (w : Wanted) (items : List ItemWanted) → ((parts : List Wanted) → IsAnnotated n w parts → Line most w parts) → IsItemNoted n (item_wanted w) items
     → IsLineOf most w items
 noted_line most n w items line l = let (parts, noted, is) = noted_back n w items l in (parts, line parts noted, is)
 
@@ -103,7 +103,7 @@ noted_line most n w items line l = let (parts, noted, is) = noted_back n w items
 pub line_back : (most : ℕ) (w : Wanted) (items : List ItemWanted) → Fit w → ItemLine most (item_wanted w) items → IsLineOf most w items
 line_back most Text items fit l = absurd fit
 line_back most OntologyIri items fit l = absurd fit
-line_back most Notes items fit l = absurd fit
+line_back most Annotations items fit l = absurd fit
 line_back most Axioms items fit l = absurd fit
 line_back most DeclarationIn items fit (inl l) = noted_line most most DeclarationIn items (λ parts k. inl k) l
 line_back most DeclarationIn items fit (inr (inl (c, is))) =
@@ -121,8 +121,8 @@ line_back most (AxiomIn a) items fit (inr (heads, exprs, makes, is)) =
       inr (word, inner, r.written, refl),
       is ∙ sym (with_end inner (ClosingOf a) (inner ++ ClosingOf a ∷ []) (operands (Form.Axiom (form_of a)) most heads exprs) refl r.same),
     )
-line_back most (NoteIn n) items fit (inl l) = noted_line most n (NoteIn n) items (λ parts k. inl k) l
-line_back most (NoteIn n) items fit (inr is) = (AnyIri ∷ Value ∷ Exact Kind.Closing ∷ [], inr refl, is)
+line_back most (AnnotationIn n) items fit (inl l) = noted_line most n (AnnotationIn n) items (λ parts k. inl k) l
+line_back most (AnnotationIn n) items fit (inr is) = (AnyIri ∷ Value ∷ Exact Kind.Closing ∷ [], inr refl, is)
 line_back most Value items fit (inl is) = (Subject ∷ [], inl refl, is)
 line_back most Value items fit (inr (inl is)) = (Exact Kind.Quoted ∷ [], inr (inl refl), is)
 line_back most Value items fit (inr (inr (inl is))) = (Exact Kind.Quoted ∷ Exact Kind.Lang ∷ [], inr (inr (inl refl)), is)
@@ -135,8 +135,8 @@ line_back most (ExprOf (suc n) e) items fit (inr (form, roles, exprs, makes, is)
       opened word (inner ++ Exact Kind.Closing ∷ []),
       inr (word, inner, r.written, refl),
       is
-          ∙ ap (items_opened (Key.Expr form)) (sym ends)
-          ∙ ap (λ (key : Key). items_opened key (map item_wanted (inner ++ Exact Kind.Closing ∷ []))) (sym r.key),
+          ∙ ap (items_opened (Keyword.Expr form)) (sym ends)
+          ∙ ap (λ (key : Keyword). items_opened key (map item_wanted (inner ++ Exact Kind.Closing ∷ []))) (sym r.key),
     )
 line_back most w items fit l = absurd l
 
@@ -163,17 +163,17 @@ last_to most Text parts last (inl (p, is)) =
     (_, inl (p, refl), ends_with (prefix_front p) Text parts (prefix_own, (tt, (tt, (tt, (tt, (tt, tt)))))) tt is)
 last_to most Text parts last (inr is) =
     (_, inr refl, ends_with (Exact (Word (codes "Ontology")) ∷ Exact Kind.Opening ∷ []) OntologyIri parts (ontology_own, (tt, tt)) tt is)
-last_to most OntologyIri parts last (inl is) = (_, inl refl, ends_with [] Notes parts tt tt is)
-last_to most OntologyIri parts last (inr (inl is)) = (_, inr (inl refl), ends_with (AnyIri ∷ []) Notes parts (tt, tt) tt is)
-last_to most OntologyIri parts last (inr (inr is)) = (_, inr (inr refl), ends_with (AnyIri ∷ AnyIri ∷ []) Notes parts (tt, (tt, tt)) tt is)
-last_to most Notes parts last (inl l) = (map item_wanted parts, inl (noted_to most Notes parts l), noted_agree most Notes parts tt l)
-last_to most Notes parts last (inr is) = (_, inr refl, ends_with [] Axioms parts tt tt is)
+last_to most OntologyIri parts last (inl is) = (_, inl refl, ends_with [] Annotations parts tt tt is)
+last_to most OntologyIri parts last (inr (inl is)) = (_, inr (inl refl), ends_with (AnyIri ∷ []) Annotations parts (tt, tt) tt is)
+last_to most OntologyIri parts last (inr (inr is)) = (_, inr (inr refl), ends_with (AnyIri ∷ AnyIri ∷ []) Annotations parts (tt, (tt, tt)) tt is)
+last_to most Annotations parts last (inl l) = (map item_wanted parts, inl (noted_to most Annotations parts l), noted_agree most Annotations parts tt l)
+last_to most Annotations parts last (inr is) = (_, inr refl, ends_with [] Axioms parts tt tt is)
 last_to most Axioms parts last (inl is) =
     (_, inl refl, ends_with (opened_front (codes "Declaration") DeclarationIn) Axioms parts (declaration_own, (tt, (tt, tt))) tt is)
 last_to most Axioms parts last (inr (inl (a, word, inner, written, is))) =
     let (heads, exprs, r) = axiom_to most a word inner written in (
       _,
-      inr (inl (form_of a, a, (heads, exprs, r.makes), ap (λ (key : Key). items_opened key (ItemWanted.AxiomIn (form_of a) a ∷ ItemWanted.Axioms ∷ [])) r.key)),
+      inr (inl (form_of a, a, (heads, exprs, r.makes), ap (λ (key : Keyword). items_opened key (ItemWanted.AxiomIn (form_of a) a ∷ ItemWanted.Axioms ∷ [])) r.key)),
       ends_with (opened_front word (AxiomIn a)) Axioms parts (r.own, (tt, (tt, tt))) tt is,
     )
 last_to most Axioms parts last (inr (inr (inl is))) =
@@ -200,17 +200,17 @@ last_back most Text items last (inl (p, is)) =
     (_, inl (p, refl), back_with (prefix_front p) Text items (prefix_own, (tt, (tt, (tt, (tt, (tt, tt)))))) tt is)
 last_back most Text items last (inr is) =
     (_, inr refl, back_with (Exact (Word (codes "Ontology")) ∷ Exact Kind.Opening ∷ []) OntologyIri items (ontology_own, (tt, tt)) tt is)
-last_back most OntologyIri items last (inl is) = (_, inl refl, back_with [] Notes items tt tt is)
-last_back most OntologyIri items last (inr (inl is)) = (_, inr (inl refl), back_with (AnyIri ∷ []) Notes items (tt, tt) tt is)
-last_back most OntologyIri items last (inr (inr is)) = (_, inr (inr refl), back_with (AnyIri ∷ AnyIri ∷ []) Notes items (tt, (tt, tt)) tt is)
-last_back most Notes items last (inl l) =
-    let (parts, noted, is) = noted_back most Notes items l in (parts, inl noted, subst (Agree parts) (sym is) (noted_agree most Notes parts tt noted))
-last_back most Notes items last (inr is) = (_, inr refl, back_with [] Axioms items tt tt is)
+last_back most OntologyIri items last (inl is) = (_, inl refl, back_with [] Annotations items tt tt is)
+last_back most OntologyIri items last (inr (inl is)) = (_, inr (inl refl), back_with (AnyIri ∷ []) Annotations items (tt, tt) tt is)
+last_back most OntologyIri items last (inr (inr is)) = (_, inr (inr refl), back_with (AnyIri ∷ AnyIri ∷ []) Annotations items (tt, (tt, tt)) tt is)
+last_back most Annotations items last (inl l) =
+    let (parts, noted, is) = noted_back most Annotations items l in (parts, inl noted, subst (Agree parts) (sym is) (noted_agree most Annotations parts tt noted))
+last_back most Annotations items last (inr is) = (_, inr refl, back_with [] Axioms items tt tt is)
 last_back most Axioms items last (inl is) =
     (_, inl refl, back_with (opened_front (codes "Declaration") DeclarationIn) Axioms items (declaration_own, (tt, (tt, tt))) tt is)
 last_back most Axioms items last (inr (inl (form, a, (heads, exprs, makes), is))) =
     let (word, inner, r) = axiom_back most form heads exprs a makes in
-    let keyed = ap (λ (key : Key). items_opened key (ItemWanted.AxiomIn form a ∷ ItemWanted.Axioms ∷ [])) (sym r.key) in
+    let keyed = ap (λ (key : Keyword). items_opened key (ItemWanted.AxiomIn form a ∷ ItemWanted.Axioms ∷ [])) (sym r.key) in
     let formed = ap (λ (f : AxiomForm). items_opened (key_of word) (ItemWanted.AxiomIn f a ∷ ItemWanted.Axioms ∷ [])) r.form_is in (
       opened word (AxiomIn a ∷ Axioms ∷ []),
       inr (inl (a, word, inner, r.written, refl)),

@@ -11,7 +11,7 @@ use Rattle.cd_meaning.specs.declared.expression.Expr.TheVariants.{Name, Meet, Jo
 use Rattle.cd_meaning.specs.declared.expression.Expr.TheOpen.{Expr-F}
 use Rattle.cd_meaning.specs.declared.expression.Expr.TheViews.{roll-Expr}
 use Rattle.cd_meaning.specs.declared.expression.Expr.TheFolds.{map-Expr, ind-Expr}
-use Rattle.cd_meaning.specs.Numbered.{is_below, has_numbers_below}
+use Rattle.cd_meaning.specs.Numbered.{is_in_range, has_numbers_below}
 use Rattle.cd_meaning.specs.NodesTable.{below-Name, below-Meet, below-Join, below-Minus, below-SomeOf, below-AllOf}
 use Rattle.cd_syntax.specs.declared.operands.Made.{Made}
 use Rattle.cd_syntax.specs.declared.words.AxiomForm.{AxiomForm}
@@ -46,15 +46,15 @@ numbers_stay n n' more numbers h =
 
 -- the operands of a form: a class or roles in range, and expressions
 abbrev pub HaveNumbersBelow : ℕ → ℕ → Form → List ℕ → List Expr → Type 0
-HaveNumbersBelow n m form heads parts = IsTrue (list_all (λ k. nat_lt k (cond (has_class_head form) n m)) heads) × IsTrue (list_all (is_below n m) parts)
+HaveNumbersBelow n m form heads parts = IsTrue (list_all (λ k. nat_lt k (cond (has_class_head form) n m)) heads) × IsTrue (list_all (is_in_range n m) parts)
 
 module _ (n m n' m' : ℕ) (classes_more : n ≤ n') (roles_more : m ≤ m') where
   -- it is in range of more numbers too
   abbrev StaysBelow : Expr → Type 0
-  StaysBelow e = is_below n m e ≡ true → is_below n' m' e ≡ true
+  StaysBelow e = is_in_range n m e ≡ true → is_in_range n' m' e ≡ true
 
-  all_stay : (parts : List Expr) → AllByRecursion StaysBelow parts → list_all (is_below n m) parts ≡ true → list_all (is_below n' m') parts ≡ true
-  all_stay parts stay = all_weaker (is_below n m) (is_below n' m') parts stay
+  all_stay : (parts : List Expr) → AllByRecursion StaysBelow parts → list_all (is_in_range n m) parts ≡ true → list_all (is_in_range n' m') parts ≡ true
+  all_stay parts stay = all_weaker (is_in_range n m) (is_in_range n' m') parts stay
 
   name_stays : (c : ℕ) → StaysBelow (Name c)
   name_stays c h = below-Name n' m' c ∙ lt_more c n n' classes_more (sym (below-Name n m c) ∙ h)
@@ -68,8 +68,8 @@ module _ (n m n' m' : ℕ) (classes_more : n ≤ n') (roles_more : m ≤ m') whe
   minus_stays : (part : Expr) → StaysBelow part → StaysBelow (Minus part)
   minus_stays part stays h = below-Minus n' m' part ∙ stays (sym (below-Minus n m part) ∙ h)
 
-  both_stay : (r : ℕ) (part : Expr) → StaysBelow part → (nat_lt r m && is_below n m part) ≡ true → (nat_lt r m' && is_below n' m' part) ≡ true
-  both_stay r part stays = and_weaker (nat_lt r m) (is_below n m part) (nat_lt r m') (is_below n' m' part) (lt_more r m m' roles_more) stays
+  both_stay : (r : ℕ) (part : Expr) → StaysBelow part → (nat_lt r m && is_in_range n m part) ≡ true → (nat_lt r m' && is_in_range n' m' part) ≡ true
+  both_stay r part stays = and_weaker (nat_lt r m) (is_in_range n m part) (nat_lt r m') (is_in_range n' m' part) (lt_more r m m' roles_more) stays
 
   some_stays : (r : ℕ) (part : Expr) → StaysBelow part → StaysBelow (SomeOf r part)
   some_stays r part stays h = below-SomeOf n' m' r part ∙ both_stay r part stays (sym (below-SomeOf n m r part) ∙ h)
@@ -92,15 +92,15 @@ module _ (n m n' m' : ℕ) (classes_more : n ≤ n') (roles_more : m ≤ m') whe
   stays_below : (e : Expr) → StaysBelow e
   stays_below = ind-Expr StaysBelow (λ x y is. subst (λ (z : Expr-F Expr). StaysBelow (roll-Expr z)) is (layer_stays y))
 
-  expressions_stay : (parts : List Expr) → list_all (is_below n m) parts ≡ true → list_all (is_below n' m') parts ≡ true
+  expressions_stay : (parts : List Expr) → list_all (is_in_range n m) parts ≡ true → list_all (is_in_range n' m') parts ≡ true
   expressions_stay parts h = all_stay parts (every StaysBelow stays_below parts) h
 
   axiom_stays : (a : Axiom) → has_numbers_below n m a ≡ true → has_numbers_below n' m' a ≡ true
-  axiom_stays (SubClass c d) h = and_weaker (is_below n m c) (is_below n m d) (is_below n' m' c) (is_below n' m' d) (stays_below c) (stays_below d) h
+  axiom_stays (SubClass c d) h = and_weaker (is_in_range n m c) (is_in_range n m d) (is_in_range n' m' c) (is_in_range n' m' d) (stays_below c) (stays_below d) h
   axiom_stays (SameClasses l) h = expressions_stay l h
   axiom_stays (Disjoint l) h = expressions_stay l h
   axiom_stays (DisjointUnion a l) h =
-      and_weaker (nat_lt a n) (list_all (is_below n m) l) (nat_lt a n') (list_all (is_below n' m') l) (lt_more a n n' classes_more) (expressions_stay l) h
+      and_weaker (nat_lt a n) (list_all (is_in_range n m) l) (nat_lt a n') (list_all (is_in_range n' m') l) (lt_more a n n' classes_more) (expressions_stay l) h
   axiom_stays (SubRole r s) h = and_weaker (nat_lt r m) (nat_lt s m) (nat_lt r m') (nat_lt s m') (lt_more r m m' roles_more) (lt_more s m m' roles_more) h
   axiom_stays (SameRoles l) h = numbers_stay m m' roles_more l h
   axiom_stays (Domain r c) h = both_stay r c (stays_below c) h
@@ -123,7 +123,7 @@ module _ (n m n' m' : ℕ) (classes_more : n ≤ n') (roles_more : m ≤ m') whe
 abbrev pub IsMadeBelow : ℕ → ℕ → Option Made → Type 0
 IsMadeBelow n m None = Unit {0}
 IsMadeBelow n m (Some (Made.Axiom a)) = has_numbers_below n m a ≡ true
-IsMadeBelow n m (Some (Made.Expr e)) = is_below n m e ≡ true
+IsMadeBelow n m (Some (Made.Expr e)) = is_in_range n m e ≡ true
 
 module _ (n m : ℕ) where
   two_below : {X : Type 0} (p : X → Bool) (x y : X) → list_all p (x ∷ y ∷ []) ≡ true → (p x && p y) ≡ true
@@ -134,28 +134,28 @@ module _ (n m : ℕ) where
 
   axiom_below : (form : AxiomForm) (heads : List ℕ) (parts : List Expr) → HaveNumbersBelow n m (Form.Axiom form) heads parts
       → IsMadeBelow n m (option_map Made.Axiom (axiom_of form heads parts))
-  axiom_below SubClassOf [] (c ∷ d ∷ []) h = two_below (is_below n m) c d h.1
+  axiom_below SubClassOf [] (c ∷ d ∷ []) h = two_below (is_in_range n m) c d h.1
   axiom_below EquivalentClasses [] (c ∷ d ∷ more) h = h.1
   axiom_below DisjointClasses [] (c ∷ d ∷ more) h = h.1
   axiom_below AxiomForm.DisjointUnion (a ∷ []) (c ∷ d ∷ more) h =
-      and_from (nat_lt a n) (list_all (is_below n m) (c ∷ d ∷ more)) (one_below (λ k. nat_lt k n) a h.0) h.1
+      and_from (nat_lt a n) (list_all (is_in_range n m) (c ∷ d ∷ more)) (one_below (λ k. nat_lt k n) a h.0) h.1
   axiom_below SubObjectPropertyOf (r ∷ s ∷ []) [] h = two_below (λ k. nat_lt k m) r s h.0
   axiom_below EquivalentObjectProperties (r ∷ s ∷ more) [] h = h.0
   axiom_below ObjectPropertyDomain (r ∷ []) (c ∷ []) h =
-      and_from (nat_lt r m) (is_below n m c) (one_below (λ k. nat_lt k m) r h.0) (one_below (is_below n m) c h.1)
+      and_from (nat_lt r m) (is_in_range n m c) (one_below (λ k. nat_lt k m) r h.0) (one_below (is_in_range n m) c h.1)
   axiom_below ObjectPropertyRange (r ∷ []) (c ∷ []) h =
-      and_from (nat_lt r m) (is_below n m c) (one_below (λ k. nat_lt k m) r h.0) (one_below (is_below n m) c h.1)
+      and_from (nat_lt r m) (is_in_range n m c) (one_below (λ k. nat_lt k m) r h.0) (one_below (is_in_range n m) c h.1)
   axiom_below form heads parts h = tt
 
   expression_below : (form : ExprForm) (heads : List ℕ) (parts : List Expr) → HaveNumbersBelow n m (Form.Expr form) heads parts
       → IsMadeBelow n m (option_map Made.Expr (expression_of form heads parts))
   expression_below ObjectIntersectionOf [] (c ∷ more) h = below-Meet n m (c ∷ more) ∙ h.1
   expression_below ObjectUnionOf [] (c ∷ more) h = below-Join n m (c ∷ more) ∙ h.1
-  expression_below ObjectComplementOf [] (c ∷ []) h = below-Minus n m c ∙ one_below (is_below n m) c h.1
+  expression_below ObjectComplementOf [] (c ∷ []) h = below-Minus n m c ∙ one_below (is_in_range n m) c h.1
   expression_below ObjectSomeValuesFrom (r ∷ []) (c ∷ []) h =
-      below-SomeOf n m r c ∙ and_from (nat_lt r m) (is_below n m c) (one_below (λ k. nat_lt k m) r h.0) (one_below (is_below n m) c h.1)
+      below-SomeOf n m r c ∙ and_from (nat_lt r m) (is_in_range n m c) (one_below (λ k. nat_lt k m) r h.0) (one_below (is_in_range n m) c h.1)
   expression_below ObjectAllValuesFrom (r ∷ []) (c ∷ []) h =
-      below-AllOf n m r c ∙ and_from (nat_lt r m) (is_below n m c) (one_below (λ k. nat_lt k m) r h.0) (one_below (is_below n m) c h.1)
+      below-AllOf n m r c ∙ and_from (nat_lt r m) (is_in_range n m c) (one_below (λ k. nat_lt k m) r h.0) (one_below (is_in_range n m) c h.1)
   expression_below form heads parts h = tt
 
   form_below : (form : Form) (heads : List ℕ) (parts : List Expr) → HaveNumbersBelow n m form heads parts → IsMadeBelow n m (made_of form heads parts)

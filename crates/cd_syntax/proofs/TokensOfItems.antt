@@ -5,12 +5,12 @@ use Rattle.cd_lex.specs.declared.token.Kind.{Kind}
 use Rattle.cd_lex.specs.declared.token.Kind.TheVariants.{Opening, Closing, Equals, Carets, Word, Short, Node, FullIri, Quoted, Lang}
 use Rattle.cd_syntax.specs.declared.item.Item.{Item}
 use Rattle.cd_syntax.specs.declared.known.Known.{Known}
-use Rattle.cd_syntax.specs.declared.words.Key.{Key}
-use Rattle.cd_syntax.specs.Grammar.{Wanted, Exact, AnyWord, AnyIri, Subject, PrefixIri, ClassOf, RoleOf, ClosingOf, Text, OntologyIri, Notes, Axioms, Means, Stands, Leads}
+use Rattle.cd_syntax.specs.declared.words.Keyword.{Keyword}
+use Rattle.cd_syntax.specs.Grammar.{Wanted, Exact, AnyWord, AnyIri, Subject, PrefixIri, ClassOf, RoleOf, ClosingOf, Text, OntologyIri, Annotations, Axioms, Means, Stands, Leads}
 use Rattle.cd_syntax.proofs.ItemGrammar.{Wanted as ItemWanted, Means as ItemMeans, Stands as ItemStands, Line as ItemLine, Leads as ItemLeads}
 use Rattle.cd_syntax.specs.Items.{item_of}
 use Rattle.cd_syntax.specs.Words.{key_of}
-use Rattle.cd_syntax.proofs.Keys.{OneOf, contains_of, says_key}
+use Rattle.cd_syntax.proofs.Keywords.{IsOneWordOf, contains_of, says_key}
 use Rattle.cd_syntax.proofs.ItemsOfTokens.{item_wanted, any_key, Fit, IsLast, Agree, agree-append, stands_to, no_last}
 use Rattle.cd_syntax.proofs.LinesOfTokens.{line_to, line_back, last_to, last_back}
 
@@ -36,7 +36,7 @@ exact_kind (FullIri i) (FullIri j) fit is = cc
 exact_kind kind k fit is = absurd cc
 
 -- the token of a word's item is a word of this key
-pub word_kind : (kind : Kind) (key : Key) → item_of kind ≡ Item.Word key → (v : List ℕ) × (kind ≡ Word v) × (key_of v ≡ key)
+pub word_kind : (kind : Kind) (key : Keyword) → item_of kind ≡ Item.Word key → (v : List ℕ) × (kind ≡ Word v) × (key_of v ≡ key)
 word_kind (Word v) key is = (v, refl, cc)
 word_kind kind key is = absurd cc
 
@@ -45,10 +45,10 @@ words_back : (known after : Known) (words : List (List ℕ)) (kind : Kind) → F
     → Stands known (AnyWord words) kind after
 words_back known after words kind (inl are) is same =
     let (v, is_word, keyed) = word_kind kind (any_key words) is in
-    (v, is_word, contains_of words v (subst (λ (ws : List (List ℕ)). (key_of v ≡ any_key ws) → OneOf ws v) (sym are) (λ e. says_key v Key.Entity e) keyed), same)
+    (v, is_word, contains_of words v (subst (λ (ws : List (List ℕ)). (key_of v ≡ any_key ws) → IsOneWordOf ws v) (sym are) (λ e. says_key v Keyword.Entity e) keyed), same)
 words_back known after words kind (inr are) is same =
     let (v, is_word, keyed) = word_kind kind (any_key words) is in
-    (v, is_word, contains_of words v (subst (λ (ws : List (List ℕ)). (key_of v ≡ any_key ws) → OneOf ws v) (sym are) (λ e. says_key v Key.AnnotationAxiom e) keyed), same)
+    (v, is_word, contains_of words v (subst (λ (ws : List (List ℕ)). (key_of v ≡ any_key ws) → IsOneWordOf ws v) (sym are) (λ e. says_key v Keyword.AnnotationAxiom e) keyed), same)
 
 -- a token stands where its item does
 pub stands_back : (known : Known) (w : Wanted) (kind : Kind) (after : Known) → Fit w → ItemStands known (item_wanted w) (item_of kind) after → Stands known w kind after
@@ -92,7 +92,7 @@ stood_token known w item after fit stands = absurd stands
 no_last_item : (known : Known) (w : Wanted) (item : Item) (after : Known) → IsLast w → ItemStands known (item_wanted w) item after → ⊥
 no_last_item known Text item after last stands = stands
 no_last_item known OntologyIri item after last stands = stands
-no_last_item known Notes item after last stands = stands
+no_last_item known Annotations item after last stands = stands
 no_last_item known Axioms item after last stands = stands
 no_last_item known w item after last stands = last
 

@@ -8,8 +8,8 @@ use Rattle.cd_meaning.specs.Numbered.{has_numbers_below}
 use Rattle.cd_syntax.specs.declared.known.Known.{Known}
 
 -- it has at most n nodes, n roles, and n classes beside owl:Thing and owl:Nothing
-abbrev pub IsWithin : ℕ → Document → Type 0
-IsWithin n document = (nodes document.axioms ≤ n) × (length document.classes ≤ n + 2) × (length document.roles ≤ n)
+abbrev pub IsSmall : ℕ → Document → Type 0
+IsSmall n document = (nodes document.axioms ≤ n) × (length document.classes ≤ n + 2) × (length document.roles ≤ n)
 
 -- what is known can be a document
 pub record IsSound (known : Known) : Type 0 where

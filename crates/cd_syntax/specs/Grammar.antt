@@ -53,13 +53,13 @@ pub data Wanted : Type 0 where
   -- what the lines below say
   Text : Wanted
   OntologyIri : Wanted
-  Notes : Wanted
+  Annotations : Wanted
   Axioms : Wanted
   DeclarationIn : Wanted
   AssertionIn : Wanted
   AnnotationAxiomIn : Wanted
   AxiomIn : Axiom → Wanted
-  NoteIn : ℕ → Wanted
+  AnnotationIn : ℕ → Wanted
   Value : Wanted
   ExprOf : ℕ → Expr → Wanted
 
@@ -106,9 +106,9 @@ abbrev pub opened : List ℕ → List Wanted → List Wanted
 opened word inner = Exact (Word word) ∷ Exact Opening ∷ inner
 
 -- an annotation, within which one less than so many may stand inside each other, and then this
-abbrev pub IsNoted : ℕ → Wanted → List Wanted → Type 0
-IsNoted zero w parts = ⊥
-IsNoted (suc n) w parts = parts ≡ opened (codes "Annotation") (NoteIn n ∷ w ∷ [])
+abbrev pub IsAnnotated : ℕ → Wanted → List Wanted → Type 0
+IsAnnotated zero w parts = ⊥
+IsAnnotated (suc n) w parts = parts ≡ opened (codes "Annotation") (AnnotationIn n ∷ w ∷ [])
 
 -- what may be declared beside a class
 abbrev pub other_entities : List (List ℕ)
@@ -149,8 +149,8 @@ abbrev pub Line : ℕ → Wanted → List Wanted → Type 0
 Line most Text parts =
     ((p : List ℕ) × (parts ≡ opened (codes "Prefix") (Exact (Short p []) ∷ Exact Equals ∷ PrefixIri p ∷ Exact Closing ∷ Text ∷ [])))
     ⊎ (parts ≡ opened (codes "Ontology") (OntologyIri ∷ []))
-Line most OntologyIri parts = (parts ≡ Notes ∷ []) ⊎ (parts ≡ AnyIri ∷ Notes ∷ []) ⊎ (parts ≡ AnyIri ∷ AnyIri ∷ Notes ∷ [])
-Line most Notes parts = IsNoted most Notes parts ⊎ (parts ≡ Axioms ∷ [])
+Line most OntologyIri parts = (parts ≡ Annotations ∷ []) ⊎ (parts ≡ AnyIri ∷ Annotations ∷ []) ⊎ (parts ≡ AnyIri ∷ AnyIri ∷ Annotations ∷ [])
+Line most Annotations parts = IsAnnotated most Annotations parts ⊎ (parts ≡ Axioms ∷ [])
 Line most Axioms parts =
     (parts ≡ opened (codes "Declaration") (DeclarationIn ∷ Axioms ∷ []))
     ⊎ ((a : Axiom) × (word : List ℕ) × (inner : List Wanted) × (axiom_form most a ≡ Some (word, inner)) × (parts ≡ opened word (AxiomIn a ∷ Axioms ∷ [])))
@@ -158,15 +158,15 @@ Line most Axioms parts =
     ⊎ (parts ≡ AnyWord annotation_axioms ∷ Exact Opening ∷ AnnotationAxiomIn ∷ Axioms ∷ [])
     ⊎ (parts ≡ Exact Closing ∷ [])
 Line most DeclarationIn parts =
-    IsNoted most DeclarationIn parts
+    IsAnnotated most DeclarationIn parts
     ⊎ ((c : ℕ) × (parts ≡ opened (codes "Class") (ClassOf c ∷ Exact Closing ∷ Exact Closing ∷ [])))
     ⊎ (parts ≡ AnyWord other_entities ∷ Exact Opening ∷ AnyIri ∷ Exact Closing ∷ Exact Closing ∷ [])
-Line most AssertionIn parts = IsNoted most AssertionIn parts ⊎ (parts ≡ AnyIri ∷ Subject ∷ Value ∷ Exact Closing ∷ [])
-Line most AnnotationAxiomIn parts = IsNoted most AnnotationAxiomIn parts ⊎ (parts ≡ AnyIri ∷ AnyIri ∷ Exact Closing ∷ [])
+Line most AssertionIn parts = IsAnnotated most AssertionIn parts ⊎ (parts ≡ AnyIri ∷ Subject ∷ Value ∷ Exact Closing ∷ [])
+Line most AnnotationAxiomIn parts = IsAnnotated most AnnotationAxiomIn parts ⊎ (parts ≡ AnyIri ∷ AnyIri ∷ Exact Closing ∷ [])
 Line most (AxiomIn a) parts =
-    IsNoted most (AxiomIn a) parts
+    IsAnnotated most (AxiomIn a) parts
     ⊎ ((word : List ℕ) × (inner : List Wanted) × (axiom_form most a ≡ Some (word, inner)) × (parts ≡ inner ++ ClosingOf a ∷ []))
-Line most (NoteIn n) parts = IsNoted n (NoteIn n) parts ⊎ (parts ≡ AnyIri ∷ Value ∷ Exact Closing ∷ [])
+Line most (AnnotationIn n) parts = IsAnnotated n (AnnotationIn n) parts ⊎ (parts ≡ AnyIri ∷ Value ∷ Exact Closing ∷ [])
 Line most Value parts = (parts ≡ Subject ∷ []) ⊎ (parts ≡ Exact Quoted ∷ []) ⊎ (parts ≡ Exact Quoted ∷ Exact Lang ∷ []) ⊎ (parts ≡ Exact Quoted ∷ Exact Carets ∷ AnyIri ∷ [])
 Line most (ExprOf n e) parts = ((c : ℕ) × (e ≡ Name c) × (parts ≡ ClassOf c ∷ [])) ⊎ IsBuilt n e parts
 Line most other parts = ⊥

@@ -5,8 +5,8 @@ use Rattle.cd_syntax.specs.declared.words.AxiomForm.{AxiomForm}
 use Rattle.cd_syntax.specs.declared.words.AxiomForm.TheVariants.{SubClassOf, EquivalentClasses, DisjointClasses, DisjointUnion, SubObjectPropertyOf, EquivalentObjectProperties, ObjectPropertyDomain, ObjectPropertyRange}
 use Rattle.cd_syntax.specs.declared.words.ExprForm.{ExprForm}
 use Rattle.cd_syntax.specs.declared.words.ExprForm.TheVariants.{ObjectIntersectionOf, ObjectUnionOf, ObjectComplementOf, ObjectSomeValuesFrom, ObjectAllValuesFrom}
-use Rattle.cd_syntax.specs.declared.words.Key.{Key}
-use Rattle.cd_syntax.specs.declared.words.Key.TheVariants.{Prefix, Ontology, Annotation, Declaration, Class, Entity, AnnotationAssertion, AnnotationAxiom, Axiom, Expr, Refused, Other}
+use Rattle.cd_syntax.specs.declared.words.Keyword.{Keyword}
+use Rattle.cd_syntax.specs.declared.words.Keyword.TheVariants.{Prefix, Ontology, Annotation, Declaration, Class, Entity, AnnotationAssertion, AnnotationAxiom, Axiom, Expr, Refused, Other}
 use Rattle.cd_syntax.specs.Constructs.{entry, refused_number}
 
 -- the axioms on classes and roles
@@ -33,7 +33,7 @@ expr_forms =
     ∷ []
 
 -- the other words that an accepted document may have
-abbrev pub other_words : List (List ℕ × Key)
+abbrev pub other_words : List (List ℕ × Keyword)
 other_words =
     (codes "Prefix", Prefix)
     ∷ (codes "Ontology", Ontology)
@@ -52,7 +52,7 @@ other_words =
     ∷ []
 
 -- the key that one of the tables has
-abbrev pub first_key : Option AxiomForm → Option ExprForm → Option Key → Option ℕ → Key
+abbrev pub first_key : Option AxiomForm → Option ExprForm → Option Keyword → Option ℕ → Keyword
 first_key (Some form) expr other number = Axiom form
 first_key None (Some form) other number = Expr form
 first_key None None (Some key) number = key
@@ -60,5 +60,5 @@ first_key None None None (Some number) = Refused number
 first_key None None None None = Other
 
 -- what the word is to the grammar
-abbrev pub key_of : List ℕ → Key
+abbrev pub key_of : List ℕ → Keyword
 key_of w = first_key (entry axiom_forms w) (entry expr_forms w) (entry other_words w) (refused_number w)

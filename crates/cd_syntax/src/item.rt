@@ -2,7 +2,7 @@
 ghost use Rattle.std.specs.Prelude.{◌≡◌};
 ghost use Rattle.cd_syntax.specs.Items.{item_of};
 
-use crate::words::{Key, key_of};
+use crate::words::{Keyword, key_of};
 use cd_base::Seq;
 use cd_lex::Kind;
 
@@ -13,7 +13,7 @@ pub enum Item {
     Closing,
     Equals,
     Carets,
-    Word(Key),
+    Word(Keyword),
     /// A short name: the prefix with its colon, and what follows it.
     Short(Seq<u8>, Seq<u8>),
     /// An anonymous individual: what follows `_:`.

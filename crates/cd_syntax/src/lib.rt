@@ -28,4 +28,4 @@ pub use laws::has_no_fault_where_read;
 pub use named::{class_of, is_iri, is_subject, role_of};
 pub use operands::{Made, has_class_head, make, wants_head, wants_part};
 pub use refusal::Refusal;
-pub use words::{AxiomForm, ExprForm, Form, Key, word_text};
+pub use words::{AxiomForm, ExprForm, Form, Keyword, word_text};

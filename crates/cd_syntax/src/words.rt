@@ -50,7 +50,7 @@ pub enum Form {
 
 /// What a word is to the grammar.
 #[derive(Clone, Copy, Debug, PartialEq, Eq)]
-pub enum Key {
+pub enum Keyword {
     Prefix,
     Ontology,
     Annotation,
@@ -71,21 +71,21 @@ pub enum Key {
 }
 
 /// What the word is to the grammar. Constant time.
-pub(crate) fn key_of(word: &[u8]) -> Key
+pub(crate) fn key_of(word: &[u8]) -> Keyword
     ensures { result ≡ key_of word.now }
 {
     if let Some(form) = axiom_form(word) {
-        return Key::Axiom(form);
+        return Keyword::Axiom(form);
     }
     if let Some(form) = expr_form(word) {
-        return Key::Expr(form);
+        return Keyword::Expr(form);
     }
     if let Some(key) = other_key(word) {
         return key;
     }
     match refused_number(word) {
-        Some(number) => Key::Refused(number),
-        None => Key::Other,
+        Some(number) => Keyword::Refused(number),
+        None => Keyword::Other,
     }
 }
 
@@ -163,50 +163,50 @@ fn expr_form(word: &[u8]) -> Option<ExprForm>
 }
 
 /// The other words that an accepted document may have.
-fn other_key(word: &[u8]) -> Option<Key>
+fn other_key(word: &[u8]) -> Option<Keyword>
     ensures { result ≡ entry other_words word.now }
 {
     if is(word, b"Prefix") {
-        return Some(Key::Prefix);
+        return Some(Keyword::Prefix);
     }
     if is(word, b"Ontology") {
-        return Some(Key::Ontology);
+        return Some(Keyword::Ontology);
     }
     if is(word, b"Annotation") {
-        return Some(Key::Annotation);
+        return Some(Keyword::Annotation);
     }
     if is(word, b"Declaration") {
-        return Some(Key::Declaration);
+        return Some(Keyword::Declaration);
     }
     if is(word, b"Class") {
-        return Some(Key::Class);
+        return Some(Keyword::Class);
     }
     if is(word, b"Datatype") {
-        return Some(Key::Entity);
+        return Some(Keyword::Entity);
     }
     if is(word, b"ObjectProperty") {
-        return Some(Key::Entity);
+        return Some(Keyword::Entity);
     }
     if is(word, b"DataProperty") {
-        return Some(Key::Entity);
+        return Some(Keyword::Entity);
     }
     if is(word, b"AnnotationProperty") {
-        return Some(Key::Entity);
+        return Some(Keyword::Entity);
     }
     if is(word, b"NamedIndividual") {
-        return Some(Key::Entity);
+        return Some(Keyword::Entity);
     }
     if is(word, b"AnnotationAssertion") {
-        return Some(Key::AnnotationAssertion);
+        return Some(Keyword::AnnotationAssertion);
     }
     if is(word, b"SubAnnotationPropertyOf") {
-        return Some(Key::AnnotationAxiom);
+        return Some(Keyword::AnnotationAxiom);
     }
     if is(word, b"AnnotationPropertyDomain") {
-        return Some(Key::AnnotationAxiom);
+        return Some(Keyword::AnnotationAxiom);
     }
     if is(word, b"AnnotationPropertyRange") {
-        return Some(Key::AnnotationAxiom);
+        return Some(Keyword::AnnotationAxiom);
     }
     None
 }

@@ -18,7 +18,7 @@ use Rattle.cd_meaning.specs.Hierarchy.{is_strictly_below, has_between, represent
 use Rattle.cd_taxonomy.specs.declared.parents.Candidate.{Candidate}
 use Rattle.cd_taxonomy.specs.Covered.{is_candidate, with_count, class_of, lists, covers, uncovered}
 use Rattle.cd_taxonomy.specs.Groups.{group_number}
-use Rattle.cd_taxonomy.specs.Relation.{is_superclass, relation, IsWithin, IsSubsumption}
+use Rattle.cd_taxonomy.specs.Relation.{is_superclass, relation, HasClassesBelow, IsSubsumption}
 use Rattle.cd_taxonomy.specs.Steps.{superclasses, superclass_counts, representative_list, ArePlaces}
 use Rattle.cd_taxonomy.proofs.SuperclassCounts.{count, count_less, count_same, counted, length-counts as length_of_counts}
 use Rattle.cd_taxonomy.proofs.SuperclassLists.{superclasses_within, superclasses_increasing, contains_from_test}
@@ -44,11 +44,11 @@ lists_from_below : (answer : Answer) (b c : ℕ) → lists answer b ≡ true →
 lists_from_below Unsatisfiable b c h k = absurd (false≢true h)
 lists_from_below (Of atoms) b c h k = k
 
-lists_within : (n : ℕ) (answer : Answer) (b : ℕ) → IsWithin n answer → lists answer b ≡ true → b < n
+lists_within : (n : ℕ) (answer : Answer) (b : ℕ) → HasClassesBelow n answer → lists answer b ≡ true → b < n
 lists_within n Unsatisfiable b w h = absurd (false≢true h)
 lists_within n (Of atoms) b w h = All-contains (λ c. c < n) atoms b w (contains_from_test atoms b h)
 
-module _ (n : ℕ) (above : List Answer) (long : length above ≡ n) (within : All (IsWithin n) above) (s : IsSubsumption n (relation above)) where
+module _ (n : ℕ) (above : List Answer) (long : length above ≡ n) (within : All (HasClassesBelow n) above) (s : IsSubsumption n (relation above)) where
   covers_within : (a b : ℕ) → covers above a b ≡ true → (a < n) × (b < n)
   covers_within a b h =
       let a_in : a < n
@@ -79,7 +79,7 @@ no_candidate = record { class = 0; superclasses = 0 }
 pub record AreGiven (names : List (List ℕ)) (above : List Answer) (counts representative_of row : List ℕ) (r : ℕ) : Type 0 where
   pub class : r < length names
   pub answered : length above ≡ length names
-  pub within : All (IsWithin (length names)) above
+  pub within : All (HasClassesBelow (length names)) above
   pub subsumption : IsSubsumption (length names) (relation above)
   pub counted : counts ≡ superclass_counts above
   pub represented : representative_of ≡ representative_list names above

@@ -95,8 +95,8 @@ all_weaker P Q [] f h = tt
 all_weaker P Q (x ∷ xs) f h = (f x h.0, all_weaker P Q xs f h.1)
 
 module _ (names : List (List ℕ)) where
-  abbrev IsApart : ℕ → ℕ → Type 0
-  IsApart c d = eq_by_cmp (by_name names) c d ≡ false
+  abbrev HasNoRepeats : ℕ → ℕ → Type 0
+  HasNoRepeats c d = eq_by_cmp (by_name names) c d ≡ false
 
   abbrev IsLess : ℕ → ℕ → Type 0
   IsLess c d = by_name names c d ≡ Less
@@ -108,7 +108,7 @@ module _ (names : List (List ℕ)) where
   put_keeps P c ds here all = recursion_from_All P (put_in_order names c ds)
       (All-permutation P (c ∷ ds) (put_in_order names c ds) (put_permutes names c ds) (All-from_recursion P (c ∷ ds) (here, all)))
 
-  put_rises : (c : ℕ) (ds : List ℕ) → AllByRecursion (IsApart c) ds → IsStrictlySortedBy (by_name names) ds
+  put_rises : (c : ℕ) (ds : List ℕ) → AllByRecursion (HasNoRepeats c) ds → IsStrictlySortedBy (by_name names) ds
       → IsStrictlySortedBy (by_name names) (put_in_order names c ds)
   unfolding IsStrictlySortedBy
   put_rises c [] apart up = (tt, tt)
@@ -125,9 +125,9 @@ module _ (names : List (List ℕ)) where
   unfolding IsStrictlySortedBy
   in_order_rises [] apart = tt
   in_order_rises (c ∷ more) apart =
-      let kept : All (IsApart c) (in_order names more) = All-permutation (IsApart c) more (in_order names more) (in_order_permutes names more)
-      (All-from_recursion (IsApart c) more (IsDistinct-head (eq_by_cmp (by_name names)) c more apart)) in
-      put_rises c (in_order names more) (recursion_from_All (IsApart c) (in_order names more) kept)
+      let kept : All (HasNoRepeats c) (in_order names more) = All-permutation (HasNoRepeats c) more (in_order names more) (in_order_permutes names more)
+      (All-from_recursion (HasNoRepeats c) more (IsDistinct-head (eq_by_cmp (by_name names)) c more apart)) in
+      put_rises c (in_order names more) (recursion_from_All (HasNoRepeats c) (in_order names more) kept)
       (in_order_rises more (IsDistinct-tail (eq_by_cmp (by_name names)) c more apart))
 
 module _ (names : List (List ℕ)) (distinct : AllPairs (λ a b. a ≢ b) names) where

@@ -14,9 +14,9 @@ abbrev pub relation : List Answer → ℕ → ℕ → Bool
 relation above a b = is_superclass (slice_index_or above a Unsatisfiable) b
 
 -- every atom of the answer is below n
-abbrev pub IsWithin : ℕ → Answer → Type 0
-IsWithin n Unsatisfiable = Unit {0}
-IsWithin n (Of atoms) = All (λ (atom : ℕ). atom < n) atoms
+abbrev pub HasClassesBelow : ℕ → Answer → Type 0
+HasClassesBelow n Unsatisfiable = Unit {0}
+HasClassesBelow n (Of atoms) = All (λ (atom : ℕ). atom < n) atoms
 
 -- reflexive and transitive on the numbers below n, with owl:Thing above all and owl:Nothing below all
 pub record IsSubsumption (n : ℕ) (below : ℕ → ℕ → Bool) : Type 0 where

@@ -1,7 +1,7 @@
 //! How many classes are above each class. Of two classes, one below the other, the lower has more, unless they are equivalent.
 ghost use Rattle.std.specs.Prelude.{◌≡◌, ℕ, ◌<◌, ◌^◌, ◌↔◌, length, All, Contains, IfOk};
 ghost use Rattle.std.specs.List.Sorted.{IsStrictlyIncreasing};
-ghost use Rattle.cd_taxonomy.specs.Relation.{IsWithin};
+ghost use Rattle.cd_taxonomy.specs.Relation.{HasClassesBelow};
 ghost use Rattle.cd_taxonomy.specs.Steps.{superclasses, superclass_counts};
 
 use crate::order::numbers_below;
@@ -12,7 +12,7 @@ use std::alloc::Global;
 ///
 /// Linear in the answer where it is ascending, else `n log n` in it; linear in `n` for an unsatisfiable class.
 pub(crate) fn superclasses(alloc: Global, n: u32, answer: &Answer) -> Result<Vec<u32>, Memory>
-    requires { IsWithin n answer.now }
+    requires { HasClassesBelow n answer.now }
     ensures { IfOk result (λ found. found.items ≡ superclasses n answer.now) }
 {
     match answer {
@@ -43,7 +43,7 @@ fn listed_numbers(alloc: Global, atoms: &[Atom]) -> Result<Vec<u32>, Memory>
 /// How many classes are above each class. As `superclasses` of each answer, but constant for an unsatisfiable class.
 pub(crate) fn superclass_counts(alloc: Global, above: &[Answer]) -> Result<Vec<u32>, Memory>
     requires few { length above.now < 2 ^ 32 }
-    requires within { All (IsWithin (length above.now)) above.now }
+    requires within { All (HasClassesBelow (length above.now)) above.now }
     ensures { IfOk result (λ counts. counts.items ≡ superclass_counts above.now) }
 {
     let n = above.len() as u32;
@@ -56,7 +56,7 @@ pub(crate) fn superclass_counts(alloc: Global, above: &[Answer]) -> Result<Vec<u
 
 /// How many classes below `n` are above a class with this answer. As `superclasses`, but constant for an unsatisfiable class.
 fn superclass_count(alloc: Global, n: u32, answer: &Answer) -> Result<u32, Memory>
-    requires { IsWithin n answer.now }
+    requires { HasClassesBelow n answer.now }
     ensures { IfOk result (λ count. count ≡ length (superclasses n answer.now)) }
 {
     if let Answer::Unsatisfiable = answer {

@@ -2,7 +2,7 @@
 ghost use Rattle.std.specs.Prelude.{◌≡◌, ◌<◌, length, All, IfOk};
 ghost use Rattle.cd_meaning.specs.Hierarchy.{classes_in_order, representatives as relation_representatives};
 ghost use Rattle.cd_taxonomy.specs.Groups.{group_at, groups, IsNumbered};
-ghost use Rattle.cd_taxonomy.specs.Relation.{relation, IsWithin, IsSubsumption};
+ghost use Rattle.cd_taxonomy.specs.Relation.{relation, HasClassesBelow, IsSubsumption};
 ghost use Rattle.cd_taxonomy.specs.Steps.{superclass_counts, representative_list, ArePlaces};
 
 use crate::counts::{superclass_counts, superclasses};
@@ -22,7 +22,7 @@ use std::alloc::Global;
 /// the answers' lengths; each direct superclass of a group costs the length of its own answer besides.
 pub fn taxonomy(alloc: Global, document: &Document, above: &[Answer]) -> Result<Taxonomy, Memory>
     requires answered { length above.now ≡ length document.now.classes }
-    requires within { All (IsWithin (length document.now.classes)) above.now }
+    requires within { All (HasClassesBelow (length document.now.classes)) above.now }
     requires subsumption { IsSubsumption (length document.now.classes) (relation above.now) }
     ensures groups { IfOk result (λ found. found.groups ≡ groups document.now.classes (relation above.now)) }
     ensures numbered { IfOk result (λ found. IsNumbered (length document.now.classes) found.groups) }
@@ -71,7 +71,7 @@ struct Tables<'a> {
 
 /// The groups of all representatives, in their order. The sum of what `group` takes for each.
 fn groups(alloc: Global, tables: &Tables, representatives: &[u32]) -> Result<Vec<Group>, Memory>
-    requires within { All (IsWithin (length tables.now.document.now.classes)) tables.now.above.now }
+    requires within { All (HasClassesBelow (length tables.now.document.now.classes)) tables.now.above.now }
     requires classes { All (λ c. c < length tables.now.document.now.classes) representatives.now }
     requires chosen { representatives.now ≡ relation_representatives tables.now.document.now.classes (relation tables.now.above.now) }
     ensures { IfOk result (λ found. found.items ≡ groups tables.now.document.now.classes (relation tables.now.above.now)) }
@@ -85,7 +85,7 @@ fn groups(alloc: Global, tables: &Tables, representatives: &[u32]) -> Result<Vec
 
 /// The group of a representative. `n log n` in its own answer at most, and linear in the answers of its direct superclasses.
 fn group(alloc: Global, tables: &Tables, r: u32) -> Result<Group, Memory>
-    requires within { All (IsWithin (length tables.now.document.now.classes)) tables.now.above.now }
+    requires within { All (HasClassesBelow (length tables.now.document.now.classes)) tables.now.above.now }
     requires class { r < length tables.now.document.now.classes }
     ensures { IfOk result (λ found. found ≡ group_at tables.now.document.now.classes (relation tables.now.above.now) r) }
 {

@@ -2,7 +2,7 @@
 ghost use Rattle.std.specs.Prelude.{◌≡◌, ◌<◌, ◌==◌, not, ◌&&◌, ◌∷◌, length, map, filter, All, IfOk, slice_index, slice_index_or};
 ghost use Rattle.cd_base.specs.declared.answer.Answer.TheVariants.{Unsatisfiable};
 ghost use Rattle.cd_meaning.specs.Hierarchy.{classes_in_order, members};
-ghost use Rattle.cd_taxonomy.specs.Relation.{relation, IsWithin, IsSubsumption};
+ghost use Rattle.cd_taxonomy.specs.Relation.{relation, HasClassesBelow, IsSubsumption};
 ghost use Rattle.cd_taxonomy.specs.Steps.{superclasses, superclass_counts, ArePlaces};
 
 use cd_base::{Answer, Memory};
@@ -24,7 +24,7 @@ pub(crate) fn members(
 ) -> Result<Vec<u32>, Memory>
     requires class { r < length document.now.classes }
     requires answered { length above.now ≡ length document.now.classes }
-    requires within { All (IsWithin (length document.now.classes)) above.now }
+    requires within { All (HasClassesBelow (length document.now.classes)) above.now }
     requires subsumption { IsSubsumption (length document.now.classes) (relation above.now) }
     requires counted { counts.now ≡ superclass_counts above.now }
     requires ordered { order.now ≡ classes_in_order document.now.classes }

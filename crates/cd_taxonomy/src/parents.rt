@@ -7,7 +7,7 @@ ghost use Rattle.cd_base.specs.declared.answer.Answer.TheVariants.{Unsatisfiable
 ghost use Rattle.cd_meaning.specs.Hierarchy.{parents, representatives};
 ghost use Rattle.cd_taxonomy.specs.Covered.{is_candidate, with_count, class_of, lists, covers, uncovered};
 ghost use Rattle.cd_taxonomy.specs.Groups.{group_number};
-ghost use Rattle.cd_taxonomy.specs.Relation.{relation, IsWithin, IsSubsumption};
+ghost use Rattle.cd_taxonomy.specs.Relation.{relation, HasClassesBelow, IsSubsumption};
 ghost use Rattle.cd_taxonomy.specs.Steps.{superclasses, superclass_counts, representative_list, ArePlaces};
 
 use cd_base::{Answer, Atom, Memory};
@@ -32,7 +32,7 @@ pub(crate) fn parents(
 ) -> Result<Vec<u32>, Memory>
     requires class { r < length document.now.classes }
     requires answered { length above.now ≡ length document.now.classes }
-    requires within { All (IsWithin (length document.now.classes)) above.now }
+    requires within { All (HasClassesBelow (length document.now.classes)) above.now }
     requires subsumption { IsSubsumption (length document.now.classes) (relation above.now) }
     requires counted { counts.now ≡ superclass_counts above.now }
     requires represented { representative_of.now ≡ representative_list document.now.classes above.now }

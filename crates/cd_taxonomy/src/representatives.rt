@@ -1,7 +1,7 @@
 //! Which class stands for the group of each class.
 ghost use Rattle.std.specs.Prelude.{ℕ, ◌≡◌, ◌<◌, ◌≤◌, ◌∷◌, length, All, Contains, IfOk, slice_index};
 ghost use Rattle.cd_meaning.specs.Hierarchy.{classes_in_order, representative, representatives};
-ghost use Rattle.cd_taxonomy.specs.Relation.{relation, IsWithin, IsSubsumption};
+ghost use Rattle.cd_taxonomy.specs.Relation.{relation, HasClassesBelow, IsSubsumption};
 ghost use Rattle.cd_taxonomy.specs.Steps.{superclass_counts, representative_list, ArePlaces};
 
 use cd_base::{Answer, Atom, Memory};
@@ -19,7 +19,7 @@ pub(crate) fn representative_list(
     places: &[u32],
 ) -> Result<Vec<u32>, Memory>
     requires answered { length above.now ≡ length document.now.classes }
-    requires within { All (IsWithin (length document.now.classes)) above.now }
+    requires within { All (HasClassesBelow (length document.now.classes)) above.now }
     requires subsumption { IsSubsumption (length document.now.classes) (relation above.now) }
     requires counted { counts.now ≡ superclass_counts above.now }
     requires placed { ArePlaces (length document.now.classes) (classes_in_order document.now.classes) places.now }
@@ -43,7 +43,7 @@ fn representative(
 ) -> u32
     requires class { c < length document.now.classes }
     requires answered { length above.now ≡ length document.now.classes }
-    requires within { All (IsWithin (length document.now.classes)) above.now }
+    requires within { All (HasClassesBelow (length document.now.classes)) above.now }
     requires subsumption { IsSubsumption (length document.now.classes) (relation above.now) }
     requires counted { counts.now ≡ superclass_counts above.now }
     requires placed { ArePlaces (length document.now.classes) (classes_in_order document.now.classes) places.now }

@@ -2,7 +2,7 @@
 //! What has many parts is let go of by `drop`, which the prover takes as one step.
 ghost use Rattle.std.specs.Prelude.{◌≡◌, [], ◌∷◌, length, codes, All};
 ghost use Rattle.cd_meaning.specs.Iri.{thing, nothing};
-ghost use Rattle.cd_taxonomy.specs.Relation.{relation, IsWithin, IsSubsumption};
+ghost use Rattle.cd_taxonomy.specs.Relation.{relation, HasClassesBelow, IsSubsumption};
 
 use crate::{summary, summary_text, taxonomy, text};
 use cd_base::{Answer, Atom, Seq};
@@ -51,7 +51,7 @@ fn document(rt: &impl Abort, alloc: Global) -> Document
 
 fn answers(rt: &impl Abort, alloc: Global) -> Vec<Answer>
     ensures each { length result.items ≡ 5 }
-    ensures within { All (IsWithin 5) result.items }
+    ensures within { All (HasClassesBelow 5) result.items }
     ensures subsumption { IsSubsumption 5 (relation result.items) }
 {
     let answers = [
@@ -74,7 +74,7 @@ fn atoms(rt: &impl Abort, alloc: Global, listed: &[Atom]) -> Answer
 /// Whether the taxonomy has the text and the summary written out above.
 fn is_worked(rt: &impl Abort, alloc: Global, document: &Document, above: &[Answer]) -> bool
     requires answered { length above.now ≡ length document.now.classes }
-    requires within { All (IsWithin (length document.now.classes)) above.now }
+    requires within { All (HasClassesBelow (length document.now.classes)) above.now }
     requires subsumption { IsSubsumption (length document.now.classes) (relation above.now) }
 {
     let found = match taxonomy(alloc, document, above) {

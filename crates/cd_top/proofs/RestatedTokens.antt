@@ -13,7 +13,7 @@ use Rattle.cd_names.specs.Prefixes.{standard}
 use Rattle.cd_lex.specs.declared.token.Kind.{Kind}
 use Rattle.cd_lex.specs.declared.token.Kind.TheVariants.{Opening, Closing, Word}
 use Rattle.cd_syntax.specs.declared.known.Known.{Known}
-use Rattle.cd_syntax.specs.Grammar.{begun, with_class, with_axiom, Wanted, Exact, ClassOf, ClosingOf, Text, OntologyIri, Notes, Axioms, AxiomIn, ExprOf, axiom_form, opened, Leads}
+use Rattle.cd_syntax.specs.Grammar.{begun, with_class, with_axiom, Wanted, Exact, ClassOf, ClosingOf, Text, OntologyIri, Annotations, Axioms, AxiomIn, ExprOf, axiom_form, opened, Leads}
 use Rattle.cd_top.proofs.RestatedLines.{Statement, Same, Sub, operands, word_of, operand_kinds, kinds_of}
 use Rattle.cd_top.proofs.RestatedNames.{add_all, IsFront, front_all, number_stays}
 
@@ -120,4 +120,4 @@ module _ (names : List (List ℕ)) where
       Leads.by_line (opened (codes "Ontology") (OntologyIri ∷ [])) (inr refl)
       (Leads.one {after = begun} (refl, refl)
       (Leads.one {after = begun} (refl, refl)
-      (Leads.by_line (Notes ∷ []) (inl refl) (Leads.by_line (Axioms ∷ []) (inr refl) lines))))
+      (Leads.by_line (Annotations ∷ []) (inl refl) (Leads.by_line (Axioms ∷ []) (inr refl) lines))))

@@ -1,6 +1,6 @@
 use Rattle.std.proofs.Common.{◌≡◌, ◌≤◌, length, take, subst, sym, arith}
 use Rattle.std.proofs.lemmas.Grind.{common_steps}
-use Rattle.cd_base.specs.Lists.{Member}
+use Rattle.cd_base.specs.Lists.{OneOf}
 use Rattle.cd_actor.specs.Sends.{sent}
 use Rattle.cd_actor.specs.Cells.{At}
 use Rattle.cd_actor.specs.Owed.{IsOwedOf, IsOwedInTurn}
@@ -15,7 +15,7 @@ put_not_had-requires-clause-lawful g c x h =
     let m = g.A.Actor.meaning in let cs = c.args.cells.now in
     let at : At cs c.cells.cell-index c.cell-item.result = at_index cs c.cells.cell-index c.cell-item.result c.cells-test.true c.cell-item.is in
     let all : sent c.new-owed.result c.list_owed.new.out ≡ c.list_owed.new.out = sent_first c.new-owed.result c.list_owed.new.out c.new-owed.ensures in
-    let owes : m.owes c.cell-item.result x.0 x.1 = c.in_ok-list_owed.ensures.only x.0 x.1 (subst (λ q. Member x q) (sym all) h) in
+    let owes : m.owes c.cell-item.result x.0 x.1 = c.in_ok-list_owed.ensures.only x.0 x.1 (subst (λ q. OneOf x q) (sym all) h) in
     owed_lawful m cs c.cells.cell-index c.cell-item.result x c.requires (owed_in_family m g.met.A.Actor.same_lawful g.met.A.Actor.lawful_below g.met.A.Actor.owed_lawful) at owes
 
 pub cells-preserved : goal.cells-preserved
@@ -27,8 +27,8 @@ cells-preserved g c =
     let e = c.in_ok-put_not_had.ensures in
     let o : IsOwedOf m cs c.cell-item.result (sent c.cells.pending c.put_not_had.new.pending) =
     owed_of m cs c.cell-item.result c.list_owed.new.out (sent c.cells.pending c.put_not_had.new.pending)
-    (λ p k i. c.in_ok-list_owed.ensures.only p k (subst (λ q. Member (p, k) q) (sym all) i))
-    (λ p k w. subst (λ q. Member (p, k) q) all (c.in_ok-list_owed.ensures.every p k w)) e.not_had in
+    (λ p k i. c.in_ok-list_owed.ensures.only p k (subst (λ q. OneOf (p, k) q) (sym all) i))
+    (λ p k w. subst (λ q. OneOf (p, k) q) all (c.in_ok-list_owed.ensures.every p k w)) e.not_had in
     record {
       follows = follows_more c.args.pending.now c.cells.pending c.put_not_had.new.pending (sent c.cells.pending c.put_not_had.new.pending) f e.follows;
       owed = in_turn_next m cs c.cells.cell-index c.cell-item.result c.args.pending.now c.cells.pending c.put_not_had.new.pending at f e.follows c.cells.invariant.owed o;

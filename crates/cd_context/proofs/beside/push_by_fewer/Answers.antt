@@ -1,6 +1,6 @@
 use Rattle.std.proofs.Common.{ℕ, List, sym, subst}
 use Rattle.std.specs.Option.{IfSome}
-use Rattle.cd_base.specs.Lists.{Member}
+use Rattle.cd_base.specs.Lists.{OneOf}
 use Rattle.cd_store.proofs.Gaining.{gain_less}
 use Rattle.cd_context.specs.Beside.{HasAllAtoms, IsBesideByCon, IsBesideByOne}
 use Rattle.cd_context.proofs.Besides.{by_all}
@@ -14,4 +14,4 @@ returns c =
 pub push_by_filed-requires-clause-all : goal.push_by_filed-requires-clause-all
 push_by_filed-requires-clause-all c = λ a n h.
     let every : HasAllAtoms c.args.store.now.0 c.in-Some.atoms.items = subst (λ o. IfSome o (λ atoms. HasAllAtoms c.args.store.now.0 atoms.items)) c.in-Some.is c.in_ok-atoms.ensures in
-    subst (λ (l : List ℕ). Member a l) (sym c.as_slice-then-are_fewer.ensures.value) (every a n h)
+    subst (λ (l : List ℕ). OneOf a l) (sym c.as_slice-then-are_fewer.ensures.value) (every a n h)

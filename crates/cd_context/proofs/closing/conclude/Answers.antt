@@ -1,5 +1,5 @@
 use Rattle.std.proofs.Common.{◌<◌, ◌∷◌, ℕ, List, length, refl, sym, subst, inl, inr}
-use Rattle.cd_base.specs.Lists.{Member}
+use Rattle.cd_base.specs.Lists.{OneOf}
 use Rattle.cd_clause.specs.declared.elem.Elem.{Elem}
 use Rattle.cd_clause.specs.Derivations.{Redundant}
 use Rattle.cd_rules.specs.Uses.{FromClause}
@@ -14,7 +14,7 @@ beside-requires c = c.live-live.ensures.store.in_range c.args.number c.requires
 pub on_clause-requires-clause-live : goal.on_clause-requires-clause-live
 on_clause-requires-clause-live c = λ k m.
     subst (λ (cs : List (List Elem)). k < length cs) (sym c.clauses.ensures.value)
-    (c.live-live.ensures.store.in_range k (c.in_ok-others.ensures.live k (subst (λ (l : List ℕ). Member k l) c.as_slice.ensures.value m)))
+    (c.live-live.ensures.store.in_range k (c.in_ok-others.ensures.live k (subst (λ (l : List ℕ). OneOf k l) c.as_slice.ensures.value m)))
 
 pub on_clause-requires-clause-premise : goal.on_clause-requires-clause-premise
 on_clause-requires-clause-premise c = subst (λ (cs : List (List Elem)). c.args.number < length cs) (sym c.clauses.ensures.value) (c.live-live.ensures.store.in_range c.args.number c.requires)
@@ -29,7 +29,7 @@ returns-clause-only c = λ d m.
     concluded_of c.args.index.now.normal c.args.key.now told c.args.store.now.0 (c.args.number ∷ c.as_slice.result.now) d
     (λ k h. elim h [
       | inl e ↦ subst (λ (j : ℕ). j < length c.args.store.now.0) (sym e) (c.live-live.ensures.store.in_range c.args.number c.requires)
-      | inr i ↦ c.live-live.ensures.store.in_range k (c.in_ok-others.ensures.live k (subst (λ (l : List ℕ). Member k l) c.as_slice.ensures.value i))
+      | inr i ↦ c.live-live.ensures.store.in_range k (c.in_ok-others.ensures.live k (subst (λ (l : List ℕ). OneOf k l) c.as_slice.ensures.value i))
     ]) q.0
 
 pub returns-clause-every : goal.returns-clause-every

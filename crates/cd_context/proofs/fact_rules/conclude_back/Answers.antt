@@ -1,6 +1,6 @@
 use Rattle.std.proofs.Common.{◌<◌, ℕ, List, length, sym, subst}
 use Rattle.std.specs.Result.{IsOk}
-use Rattle.cd_base.specs.Lists.{Member}
+use Rattle.cd_base.specs.Lists.{OneOf}
 use Rattle.cd_clause.specs.declared.elem.Elem.{Elem}
 use Rattle.cd_base.specs.Appends.{Appends}
 use Rattle.cd_rules.specs.Among.{Among}
@@ -11,7 +11,7 @@ use Rattle.cd_context.proofs.fact_rules.conclude_back.Goals as goal
 pub on_back-done-requires : goal.on_back-done-requires
 on_back-done-requires c = record {
   live = λ k m. subst (λ (cs : List (List Elem)). k < length cs) (sym c.clauses.ensures.value)
-      (c.live-live.ensures.store.in_range k (c.in_ok-numbers.ensures.live k (subst (λ (l : List ℕ). Member k l) c.as_slice.ensures.value m)));
+      (c.live-live.ensures.store.in_range k (c.in_ok-numbers.ensures.live k (subst (λ (l : List ℕ). OneOf k l) c.as_slice.ensures.value m)));
 }
 
 pub returns : goal.returns

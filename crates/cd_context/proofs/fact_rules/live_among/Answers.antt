@@ -1,6 +1,6 @@
 use Rattle.std.proofs.Common.{ℕ, [], length, get_or, refl, subst, arith}
 use Rattle.std.proofs.lemmas.Bool.{both_ways}
-use Rattle.cd_base.specs.Lists.{Member}
+use Rattle.cd_base.specs.Lists.{OneOf}
 use Rattle.cd_rules.proofs.Gathered.{gather_all, gather_passes, gather_pushes}
 use Rattle.cd_context.proofs.FactRules.{OfLive, all_live}
 use Rattle.cd_context.proofs.fact_rules.live_among.Goals.{then-is_live+in_ok-push, else-is_live}
@@ -16,10 +16,10 @@ candidates-preserved c =
           (refl, c.is_live.ensures.0 w.if-is_live.true) (λ b q. q.0))
       | else-is_live w ↦ rw w.numbers-is
           (gather_passes Q c.candidates.i [] c.candidates.numbers.items c.candidates.invariant
-          (λ b q. both_ways c.is_live.result w.if-is_live.false (c.is_live.ensures.1 (subst (λ (z : ℕ). Member z c.args.store.now.1) q.0 q.1))))
+          (λ b q. both_ways c.is_live.result w.if-is_live.false (c.is_live.ensures.1 (subst (λ (z : ℕ). OneOf z c.args.store.now.1) q.0 q.1))))
     ]
 
 pub returns : goal.returns
 returns c = gather_all (OfLive c.args.candidates.now c.args.store.now.1) c.candidates.i (length c.args.candidates.now) c.candidates.numbers.items
-    (λ (k : ℕ). Member k c.args.candidates.now × Member k c.args.store.now.1)
+    (λ (k : ℕ). OneOf k c.args.candidates.now × OneOf k c.args.store.now.1)
     c.candidates.invariant (omega (arith, c.candidates-test.false)) (all_live c.args.candidates.now c.args.store.now.1)

@@ -1,7 +1,7 @@
 use Rattle.std.proofs.Common.{◌⊎◌, ◌↔◌, ◌<◌, ℕ, List, [], ◌∷◌, length, get_or, subst, arith}
 use Rattle.std.proofs.lemmas.Grind.{common_steps}
 use Rattle.std.proofs.lemmas.List.{get_or_read}
-use Rattle.cd_base.specs.Lists.{Member, SameSet}
+use Rattle.cd_base.specs.Lists.{OneOf, SameSet}
 use Rattle.cd_base.proofs.Members.{member_get}
 use Rattle.cd_clause.specs.Numbers.{picked}
 use Rattle.cd_clause.specs.declared.elem.Elem.{Elem}
@@ -24,7 +24,7 @@ numbers-preserved c =
     let at : ℕ = get_or c.args.live.now c.numbers.i 0 in
     let is = get_or_read c.args.clauses.now at c.index-clauses-at.result (c.requires.in_range _ (member_get c.args.live.now c.numbers.i 0 c.numbers-test.true)) c.index-clauses-at.is [] in
     gather_goes (StandsAlone c.args.clauses.now c.args.live.now) c.numbers.i [] c.numbers.atoms.items c.numbers.invariant c.push_single.new.atoms.items
-    (λ b. subst (λ (d : List Elem). Member b c.push_single.new.atoms.items ↔ (Member b c.numbers.atoms.items ⊎ SameSet d (Plain b ∷ []))) is (c.in_ok-push_single.ensures b))
+    (λ b. subst (λ (d : List Elem). OneOf b c.push_single.new.atoms.items ↔ (OneOf b c.numbers.atoms.items ⊎ SameSet d (Plain b ∷ []))) is (c.in_ok-push_single.ensures b))
 
 pub returns-clause-exact : goal.returns-clause-exact
 returns-clause-exact c = λ b.

@@ -1,7 +1,7 @@
 use Rattle.std.proofs.Common.{◌≡◌, ℕ, true, refl, ap, subst, arith, length}
 use Rattle.std.specs.Result.{IsOk}
 use Rattle.cd_base.specs.Appends.{Appends}
-use Rattle.cd_base.specs.Lists.{Member}
+use Rattle.cd_base.specs.Lists.{OneOf}
 use Rattle.cd_base.proofs.Appending.{OfBelow, below_begins, below_goes, below_stops, failed, member_grows}
 use Rattle.cd_context.specs.Parts.{IsLinkAt}
 use Rattle.cd_context.proofs.Owed.{links_end}
@@ -31,4 +31,4 @@ returns c =
     let all : c.places.i ≡ count = grind arith in
     links_end c.args.index.now.normal c.args.key.now c.args.clause.now count (Unit {0}) (true ≡ true) c.args.out.now.items c.places.out.items
     (ap length c.elems-count.ensures.elems) (λ h. tt)
-    (subst (λ (k : ℕ). Appends Member (OfBelow Q k) (Unit {0}) c.args.out.now.items c.places.out.items) all c.places.invariant)
+    (subst (λ (k : ℕ). Appends OneOf (OfBelow Q k) (Unit {0}) c.args.out.now.items c.places.out.items) all c.places.invariant)

@@ -2,7 +2,7 @@ use Rattle.std.proofs.Common.{◌≡◌, ℕ, true, refl, ap, sym, ◌∙◌, su
 use Rattle.std.specs.Result.{IsOk}
 use Rattle.std.proofs.lemmas.List.{nil_from_length}
 use Rattle.cd_base.specs.Appends.{Appends}
-use Rattle.cd_base.specs.Lists.{Member}
+use Rattle.cd_base.specs.Lists.{OneOf}
 use Rattle.cd_base.proofs.Appending.{OfBelow, below_begins, below_goes, below_stops, failed, member_grows}
 use Rattle.cd_context.specs.Parts.{IsBackAt}
 use Rattle.cd_context.proofs.Owed.{deads_end, told_end}
@@ -39,4 +39,4 @@ returns c =
     let all : c.places.i ≡ count = grind arith in
     told_end c.args.index.now.normal c.args.key.now c.args.links.now c.args.clause.now count (Unit {0}) (true ≡ true) c.args.out.now.items c.places.out.items
     (ap length c.elems-count.ensures.elems) (λ e. grind (arith, e)) (λ h. tt)
-    (subst (λ (k : ℕ). Appends Member (OfBelow Q k) (Unit {0}) c.args.out.now.items c.places.out.items) all c.places.invariant)
+    (subst (λ (k : ℕ). Appends OneOf (OfBelow Q k) (Unit {0}) c.args.out.now.items c.places.out.items) all c.places.invariant)

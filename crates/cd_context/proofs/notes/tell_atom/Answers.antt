@@ -1,7 +1,7 @@
 use Rattle.std.proofs.Common.{◌≡◌, true, List, [], length, refl, sym, ◌∙◌, subst, eqb-true}
 use Rattle.std.specs.Result.{IsOk}
 use Rattle.std.proofs.lemmas.List.{nil_from_length}
-use Rattle.cd_base.specs.Lists.{Member}
+use Rattle.cd_base.specs.Lists.{OneOf}
 use Rattle.cd_base.specs.declared.normal.Triple.{Triple}
 use Rattle.cd_context.specs.Parts.{IsUsefulBack}
 use Rattle.cd_base.proofs.Appending.{OfOne, failed, member_grows, none, walk_ends, walk_goes, walk_stops}
@@ -14,7 +14,7 @@ returns-then-is_empty c =
     let axioms = c.backs-axioms.result.now in
     let empty : axioms ≡ [] = nil_from_length axioms (eqb-true (length axioms) 0 (sym c.is_empty.ensures ∙ c.if-is_empty.true)) in
     none (OfOne (IsUsefulBack normal c.args.key.now c.args.atom) c.args.links.now) (true ≡ true) c.args.out.now.items
-    (λ h note p. let u = use_found normal c.args.atom axioms p.0.role c.backs-axioms.ensures p.2.0 in subst (λ (l : List Triple). Member u.0 l) empty u.1)
+    (λ h note p. let u = use_found normal c.args.atom axioms p.0.role c.backs-axioms.ensures p.2.0 in subst (λ (l : List Triple). OneOf u.0 l) empty u.1)
 
 pub returns-in_err-tell_back : goal.returns-in_err-tell_back
 returns-in_err-tell_back c =

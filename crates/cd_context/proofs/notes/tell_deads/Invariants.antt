@@ -1,11 +1,11 @@
 use Rattle.std.proofs.Common.{length}
 use Rattle.cd_context.specs.Parts.{IsDeadNote}
 use Rattle.cd_base.proofs.Appending.{HasWalked}
-use Rattle.cd_base.specs.Lists.{Member}
+use Rattle.cd_base.specs.Lists.{OneOf}
 use Rattle.cd_context.proofs.notes.tell_deads.Given as goal
 
 abbrev pub invariant-links : goal.invariant-links
-invariant-links l = HasWalked Member (IsDeadNote l.key) l.initial.rest l.rest l.fn.out.items l.out.items
+invariant-links l = HasWalked OneOf (IsDeadNote l.key) l.initial.rest l.rest l.fn.out.items l.out.items
 
 abbrev pub decreases-links : goal.decreases-links
 decreases-links l = length l.rest

@@ -5,7 +5,7 @@ use Rattle.cd_meaning.specs.declared.expression.Expr.{Expr}
 use Rattle.cd_meaning.specs.Nodes.{nodes_of}
 use Rattle.cd_nnf.specs.Nnf.{nnf}
 use Rattle.cd_normal.specs.Made.{IsUseEach, IsGiven, IsGrown, IsGrownBy}
-use Rattle.cd_normal.specs.Method.{Kept, Apart, GivesApart}
+use Rattle.cd_normal.specs.NormalForm.{Kept, Apart, GivesApart}
 use Rattle.cd_normal.specs.Operands.{operand}
 use Rattle.cd_normal.proofs.ApartOperands.{given_apart, grown_apart, room_for_uses, room_for_chain}
 use Rattle.cd_normal.proofs.apart.apart.Goals as goal

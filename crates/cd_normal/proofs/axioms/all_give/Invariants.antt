@@ -1,6 +1,6 @@
 use Rattle.std.proofs.Common.{◌+◌, ◌*◌, take}
 use Rattle.cd_meaning.specs.Nodes.{nodes}
-use Rattle.cd_normal.specs.Method.{GivesFrom}
+use Rattle.cd_normal.specs.NormalForm.{GivesFrom}
 use Rattle.cd_normal.specs.Made.{IsGiven, IsGrown, role_operands}
 use Rattle.cd_normal.proofs.axioms.all_give.Given as goal
 

@@ -4,4 +4,4 @@ use Rattle.cd_normal.proofs.Giving.{given_one}
 use Rattle.cd_normal.proofs.axioms.range.Goals as goal
 
 pub returns-clause-given : goal.returns-clause-given
-returns-clause-given c k = given_one c.args.classes c.args.maker.now c.used.new.maker c.far.new.self c.args.class.now (λ x. n4 (triple 0 c.args.role x)) c.in_ok-x.x c.in_ok-x.ensures.is_use c.far.ensures.next c.in_ok-far.ensures.adds (inr refl)
+returns-clause-given c k = given_one c.args.classes c.args.maker.now c.used.new.maker c.add_universal.new.self c.args.class.now (λ x. n4 (triple 0 c.args.role x)) c.in_ok-x.x c.in_ok-x.ensures.is_use c.add_universal.ensures.next c.in_ok-add_universal.ensures.adds (inr refl)

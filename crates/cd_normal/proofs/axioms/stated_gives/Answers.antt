@@ -2,7 +2,7 @@ use Rattle.std.proofs.Common.{ℕ, ap, sym, subst, ◌∙◌}
 use Rattle.std.proofs.lemmas.Result.{IfOk-weaker}
 use Rattle.cd_meaning.specs.declared.expression.Axiom.{Axiom}
 use Rattle.cd_meaning.specs.declared.expression.Axiom.TheVariants.{Disjoint}
-use Rattle.cd_normal.specs.Method.{GivesApart}
+use Rattle.cd_normal.specs.NormalForm.{GivesApart}
 use Rattle.cd_normal.specs.Made.{IsGiven, IsGivenBy}
 use Rattle.cd_normal.proofs.axioms.stated_gives.Goals as goal
 

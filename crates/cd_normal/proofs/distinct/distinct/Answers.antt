@@ -6,7 +6,7 @@ use Rattle.std.proofs.lemmas.List.Elements.{All-push}
 use Rattle.std.proofs.lemmas.Bool.{not-true, not-false}
 use Rattle.std.proofs.lemmas.List.{take_all}
 use Rattle.cd_normal.specs.Codes.{code}
-use Rattle.cd_normal.specs.Method.{Kept}
+use Rattle.cd_normal.specs.NormalForm.{Kept}
 use Rattle.cd_normal.specs.Operands.{operand}
 use Rattle.cd_normal.proofs.DistinctOperands.{is_coded, kept_more, kept_same, coded_more, true_first}
 use Rattle.cd_normal.proofs.distinct.distinct.Goals as goal

@@ -2,7 +2,7 @@ use Rattle.std.proofs.Common.{◌≡◌, ℕ, ◌<◌, [], length, map, take, Ve
 use Rattle.std.specs.HashSet.{contains}
 use Rattle.std.specs.List.{All}
 use Rattle.std.specs.Str.{bytes_eq}
-use Rattle.cd_normal.specs.Method.{Kept}
+use Rattle.cd_normal.specs.NormalForm.{Kept}
 use Rattle.cd_normal.specs.Operands.{operand}
 use Rattle.cd_normal.proofs.DistinctOperands.{is_coded}
 use Rattle.cd_normal.proofs.distinct.distinct.Given as goal

@@ -1,6 +1,6 @@
 use Rattle.std.proofs.Common.{◌+◌, true, rules, arith, not, [], ◌∷◌, length, sum_by, refl, sym, subst}
 use Rattle.cd_meaning.specs.Nodes.{nodes_of}
-use Rattle.cd_meaning.specs.Numbered.{is_below}
+use Rattle.cd_meaning.specs.Numbered.{is_in_range}
 use Rattle.cd_meaning.specs.declared.expression.Expr.TheVariants.{AllOf}
 use Rattle.cd_meaning.specs.NormalAxioms.{n4, triple}
 use Rattle.std.proofs.lemmas.Result.{IfOk-weaker}
@@ -171,7 +171,7 @@ used_each-used-requires t c =
     let d = c.decreases in (
       omega (arith, n, d),
       (
-        (c.requires.within.0, below_at (is_below c.args.classes c.requires.within.0) c.args.parts.now c.loop-part.part-index c.part-item.result c.loop-part-test.true c.part-item.is c.requires.within.1),
+        (c.requires.within.0, below_at (is_in_range c.args.classes c.requires.within.0) c.args.parts.now c.loop-part.part-index c.part-item.result c.loop-part-test.true c.part-item.is c.requires.within.1),
         room_each c.args.maker.now c.loop-part.maker c.loop-part.maker c.args.sign c.args.parts.now c.loop-part.part-index c.part-item.result c.loop-part-test.true c.part-item.is c.requires.few c.loop-part.invariant.grown,
       ),
     )

@@ -1,6 +1,6 @@
 use Rattle.std.proofs.Common.{ℕ, ◌<◌, List, length, get_or, refl, sym, ◌∙◌, ap, subst, arith}
 use Rattle.std.proofs.lemmas.Bool.{both_ways}
-use Rattle.cd_base.specs.Lists.{Member}
+use Rattle.cd_base.specs.Lists.{OneOf}
 use Rattle.cd_base.specs.declared.normal.Conj.{Conj}
 use Rattle.cd_base.specs.declared.normal.Normal.{Normal}
 use Rattle.cd_base.proofs.Members.{member_get}
@@ -26,11 +26,11 @@ found-preserved c =
     elim c.if-has_on_left.branch [
       | then-has_on_left+in_ok-push w ↦ rw w.numbers-is
           (gather_pushes (OfFound axioms c.filed-found.result.now atom) c.found.i c.args.numbers.now.items c.found.numbers.items c.found.invariant w.push.new.self.items k
-          w.in_ok-push.ensures.items (refl, subst (λ (l : List Conj). Member atom (left_of l k)) same (c.has_on_left.ensures.0 w.if-has_on_left.true)) (λ b q. q.0))
+          w.in_ok-push.ensures.items (refl, subst (λ (l : List Conj). OneOf atom (left_of l k)) same (c.has_on_left.ensures.0 w.if-has_on_left.true)) (λ b q. q.0))
       | else-has_on_left w ↦ rw w.numbers-is
           (gather_passes (OfFound axioms c.filed-found.result.now atom) c.found.i c.args.numbers.now.items c.found.numbers.items c.found.invariant
           (λ b q. both_ways c.has_on_left.result w.if-has_on_left.false
-          (c.has_on_left.ensures.1 (subst (λ (l : List Conj). Member atom (left_of l k)) (sym same) (subst (λ (j : ℕ). Member atom (left_of axioms j)) q.0 q.1)))))
+          (c.has_on_left.ensures.1 (subst (λ (l : List Conj). OneOf atom (left_of l k)) (sym same) (subst (λ (j : ℕ). OneOf atom (left_of axioms j)) q.0 q.1)))))
     ]
 
 pub returns : goal.returns
@@ -39,8 +39,8 @@ returns c =
     let atom = c.args.atom in
     let there = filed_at c.args.index.now.filed c.args.index.now.normal.atoms c.args.under in
     gather_ends (OfFound axioms c.filed-found.result.now atom) c.found.i (length c.filed-found.result.now) c.args.numbers.now.items c.found.numbers.items
-    (λ (k : ℕ). Member k there × Member atom (left_of axioms k)) c.found.invariant (omega (arith, c.found-test.false))
+    (λ (k : ℕ). OneOf k there × OneOf atom (left_of axioms k)) c.found.invariant (omega (arith, c.found-test.false))
     (λ k. let w = found_whole axioms c.filed-found.result.now atom k in (
-      λ q. (subst (Member k) c.filed-found.ensures.list (w.0 q).0, (w.0 q).1),
-      λ q. w.1 (subst (Member k) (sym c.filed-found.ensures.list) q.0, q.1),
+      λ q. (subst (OneOf k) c.filed-found.ensures.list (w.0 q).0, (w.0 q).1),
+      λ q. w.1 (subst (OneOf k) (sym c.filed-found.ensures.list) q.0, q.1),
     ))

@@ -3,7 +3,7 @@ use Rattle.std.proofs.lemmas.Result.{err_from_is_err_and}
 use Rattle.cd_actor.specs.Cells.{At}
 use Rattle.cd_base.specs.Keys.{is_named}
 use Rattle.cd_saturation.specs.Limit.{HasHalted}
-use Rattle.cd_saturation.specs.Saturation.{IsBegun, IsAnswerIn}
+use Rattle.cd_saturation.specs.Saturation.{IsBegun, IsSubsumersInCells}
 use Rattle.cd_saturation.proofs.Answered.{answers_are, no_limit, reached}
 use Rattle.cd_saturation.proofs.Documents.{class_is_named}
 use Rattle.cd_saturation.proofs.subsumers.answers.Goals as goal
@@ -44,4 +44,4 @@ returns-clause-ok c =
     let e = c.in_ok-above.ensures in
     answers_are c.args.document.now c.in_ok-index.index.normal c.in_ok-index.ensures.method c.in_ok-index.ensures.closure c.in_ok-index.ensures.roles c.in_ok-cells.cells.items c.in_ok-cells.ensures.closed c.args.limits.now.cells
     (λ a lt. c.in_ok-cells.ensures.begun a (subst (λ l. a < l) (sym long) lt)) c.in_ok-above.above.items (e.each ∙ long)
-    (λ a x at. subst (λ cs. IsAnswerIn c.args.limits.now.cells cs a x) c.deref.ensures.value (e.are a x at))
+    (λ a x at. subst (λ cs. IsSubsumersInCells c.args.limits.now.cells cs a x) c.deref.ensures.value (e.are a x at))

@@ -1,5 +1,5 @@
 use Rattle.std.proofs.Common.{◌≡◌, ◌==◌, ℕ, List, [], get_or, refl, sym, ◌∙◌, subst, eqb-true, eq-eqb}
-use Rattle.cd_base.specs.Lists.{Member, Within}
+use Rattle.cd_base.specs.Lists.{OneOf, Within}
 use Rattle.cd_base.proofs.Members.{any_by_member, any_member}
 use Rattle.cd_clause.specs.declared.elem.Elem.{Elem}
 use Rattle.cd_store.proofs.Helpers.{get_same}
@@ -8,7 +8,7 @@ use Rattle.cd_store.proofs.store.is_dead.Goals as goal
 pub returns-then-dead-le-FEW : goal.returns-then-dead-le-FEW
 returns-then-dead-le-FEW c =
     let dead = c.args.dead.now in let n : ℕ = c.args.number in (
-      λ t. (let k = any_member (λ (y : ℕ). y == n) dead (sym c.contains.ensures.value ∙ t) in subst (λ (z : ℕ). Member z dead) (eqb-true k.0 n k.2) k.1),
+      λ t. (let k = any_member (λ (y : ℕ). y == n) dead (sym c.contains.ensures.value ∙ t) in subst (λ (z : ℕ). OneOf z dead) (eqb-true k.0 n k.2) k.1),
       λ m. c.contains.ensures.value ∙ any_by_member (λ (y : ℕ). y == n) dead n m (eq-eqb n n refl),
     )
 

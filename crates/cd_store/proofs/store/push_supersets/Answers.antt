@@ -1,6 +1,6 @@
 use Rattle.std.proofs.Common.{◌∷◌, ℕ, List, [], get_or, inl, inr, sym, subst, arith}
 use Rattle.std.proofs.lemmas.Bool.{both_ways}
-use Rattle.cd_base.specs.Lists.{Member}
+use Rattle.cd_base.specs.Lists.{OneOf}
 use Rattle.cd_base.proofs.Members.{member_cases}
 use Rattle.cd_store.specs.Sift.{IsSuperset}
 use Rattle.cd_store.proofs.Gaining.{gain_goes, gain_list, gain_none}
@@ -18,7 +18,7 @@ numbers-preserved c =
     elim c.if-is_superset.branch [
       | then-is_superset+in_ok-push w ↦ rw w.found-is record {
         every = gain_goes Q c.numbers.i old mid w.push.new.self.items c.numbers.invariant.every (gain_list (Q c.numbers.i) mid w.push.new.self.items (x ∷ []) w.in_ok-push.ensures.items (λ n q. inl q.0));
-        only = λ n m. elim (member_cases n mid (x ∷ []) (subst (λ (l : List ℕ). Member n l) w.in_ok-push.ensures.items m)) [
+        only = λ n m. elim (member_cases n mid (x ∷ []) (subst (λ (l : List ℕ). OneOf n l) w.in_ok-push.ensures.items m)) [
           | inl h ↦ c.numbers.invariant.only n h
           | inr h ↦ elim h [ inl e ↦ inr (subst P (sym e) (c.is_superset.ensures.0 w.if-is_superset.true)) | inr z ↦ absurd z ]
         ];

@@ -1,5 +1,5 @@
 use Rattle.std.proofs.Common.{ℕ, ◌⊎◌}
-use Rattle.cd_base.specs.Lists.{Member}
+use Rattle.cd_base.specs.Lists.{OneOf}
 use Rattle.cd_store.specs.Sift.{IsSuperset}
 use Rattle.cd_store.proofs.Gaining.{HasGained}
 use Rattle.cd_store.proofs.Helpers.{IsSupersetAt}
@@ -8,5 +8,5 @@ use Rattle.cd_store.proofs.store.push_supersets.Given as goal
 abbrev pub invariant-numbers : goal.invariant-numbers
 invariant-numbers l = record {
   every : HasGained (IsSupersetAt l.fn.numbers l.clauses l.live l.clause) l.i l.fn.found.items l.found.items;
-  only : (n : ℕ) → Member n l.found.items → Member n l.fn.found.items ⊎ IsSuperset l.clauses l.live l.clause n;
+  only : (n : ℕ) → OneOf n l.found.items → OneOf n l.fn.found.items ⊎ IsSuperset l.clauses l.live l.clause n;
 }

@@ -1,5 +1,5 @@
 use Rattle.std.proofs.Common.{ℕ, ◌⊎◌, length}
-use Rattle.cd_base.specs.Lists.{Member}
+use Rattle.cd_base.specs.Lists.{OneOf}
 use Rattle.cd_store.specs.Subsets.{HoldsSubset, IsAtMost, IsSubset}
 use Rattle.cd_store.proofs.subsets.least_among.Given as goal
 
@@ -7,7 +7,7 @@ abbrev pub invariant-numbers : goal.invariant-numbers
 invariant-numbers l = record {
   holds : HoldsSubset l.clauses l.live l.clause l.least;
   lower : (n : ℕ) → IsAtMost l.fn.found n → IsAtMost l.least n;
-  covers : (n : ℕ) → Member n l.numbers → Member n l.rest ⊎ (IsSubset l.clauses l.live l.clause n → IsAtMost l.least n);
+  covers : (n : ℕ) → OneOf n l.numbers → OneOf n l.rest ⊎ (IsSubset l.clauses l.live l.clause n → IsAtMost l.least n);
 }
 
 abbrev pub decreases-numbers : goal.decreases-numbers

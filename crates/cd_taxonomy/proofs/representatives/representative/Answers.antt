@@ -2,7 +2,7 @@ use Rattle.std.proofs.Common.{ℕ, ◌≡◌, ◌<◌, length, slice_index_or, s
 use Rattle.std.specs.List.{All}
 use Rattle.std.proofs.lemmas.List.{get_or_default}
 use Rattle.cd_base.specs.declared.answer.Answer.TheVariants.{Unsatisfiable, Of}
-use Rattle.cd_taxonomy.specs.Relation.{IsWithin}
+use Rattle.cd_taxonomy.specs.Relation.{HasClassesBelow}
 use Rattle.cd_taxonomy.proofs.RepresentativeByCount.{representative_by_nothing, representative_by_thing, representative_by_place, two_classes}
 use Rattle.cd_taxonomy.proofs.representatives.representative.Goals as goal
 
@@ -20,7 +20,7 @@ returns c =
     let is : slice_index_or c.args.above.now c.args.c Unsatisfiable ≡ Of c.in-Of.atoms
     = get_or_default c.args.above.now c.args.c Unsatisfiable c.index-above-c.result (omega (arith, c.requires.answered, c.requires.class)) ∙ sym c.index-above-c.is ∙ c.in-Of.is in
     let within : All (λ (atom : ℕ). atom < n) c.in-Of.atoms
-    = subst (IsWithin n) is (c.requires.within c.args.c Unsatisfiable (omega (arith, c.requires.answered, c.requires.class))) in
+    = subst (HasClassesBelow n) is (c.requires.within c.args.c Unsatisfiable (omega (arith, c.requires.answered, c.requires.class))) in
     let first = rw c.items.ensures at c.first_with_count.ensures.first in
     let listed = rw c.items.ensures at c.first_with_count.ensures.listed in
     sym (representative_by_place c.args.document.now.classes c.args.above.now c.args.counts.now

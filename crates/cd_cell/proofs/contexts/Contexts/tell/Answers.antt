@@ -2,24 +2,24 @@ use Rattle.std.proofs.Common.{ℕ, List, inr, sym, ap, subst, ◌∙◌}
 use Rattle.std.proofs.lemmas.Result.{IfOk-weaker}
 use Rattle.cd_context.specs.State.{State}
 use Rattle.cd_cell.specs.Cells.{state_at}
-use Rattle.cd_cell.specs.Telling.{AreClosed, Puts, Tells}
+use Rattle.cd_cell.specs.Telling.{AreClosedContexts, Puts, Tells}
 use Rattle.cd_cell.proofs.Puts.{state_at_is}
 use Rattle.cd_cell.proofs.Told.{at_err, here_context, here_closed, here_justified, kept, puts, tells}
 use Rattle.cd_cell.proofs.contexts.Contexts.tell.Goals as goal
 
 pub take-requires-clause-context : goal.take-requires-clause-context
 take-requires-clause-context c =
-    let closed = subst (AreClosed c.args.index.now.normal) (sym c.self.view_is) c.requires.closed in
+    let closed = subst (AreClosedContexts c.args.index.now.normal) (sym c.self.view_is) c.requires.closed in
     here_context c.args.index.now.normal c.self.inside.by_key.entries c.args.key.now c.self.inside.by_key.entries c.in-Some.context.now c.in-Some.context.now c.in-Some.ensures.value closed
 
 pub take-requires-clause-closed : goal.take-requires-clause-closed
 take-requires-clause-closed c =
-    let closed = subst (AreClosed c.args.index.now.normal) (sym c.self.view_is) c.requires.closed in
+    let closed = subst (AreClosedContexts c.args.index.now.normal) (sym c.self.view_is) c.requires.closed in
     here_closed c.args.index.now.normal c.self.inside.by_key.entries c.args.key.now c.self.inside.by_key.entries c.in-Some.context.now c.in-Some.context.now c.in-Some.ensures.value closed
 
 pub take-requires-clause-justified : goal.take-requires-clause-justified
 take-requires-clause-justified c =
-    let closed = subst (AreClosed c.args.index.now.normal) (sym c.self.view_is) c.requires.closed in
+    let closed = subst (AreClosedContexts c.args.index.now.normal) (sym c.self.view_is) c.requires.closed in
     here_justified c.args.index.now.normal c.self.inside.by_key.entries c.args.key.now c.self.inside.by_key.entries c.in-Some.context.now c.in-Some.context.now c.in-Some.ensures.value closed
     c.args.fact c.requires.justified
 
@@ -43,7 +43,7 @@ returns-in-Some-clause-ok c =
     let n = c.args.index.now.normal in
     let w = c.take.new.context in
     let new = (c.get_mut.follows.lender w).entries in
-    let closed = subst (AreClosed n) (sym c.self.view_is) c.requires.closed in
+    let closed = subst (AreClosedContexts n) (sym c.self.view_is) c.requires.closed in
     IfOk-weaker c.take.result _ _
     (λ notes t. subst (λ (es : List (List ℕ × State)). Tells n es c.args.key.now c.args.fact new notes.items) c.self.view_is
     (tells n c.self.inside.by_key.entries c.args.key.now new w c.in-Some.context.now c.in-Some.ensures.value
@@ -54,7 +54,7 @@ returns-in-Some-clause-err c =
     let n = c.args.index.now.normal in
     let w = c.take.new.context in
     let new = (c.get_mut.follows.lender w).entries in
-    let closed = subst (AreClosed n) (sym c.self.view_is) c.requires.closed in
+    let closed = subst (AreClosedContexts n) (sym c.self.view_is) c.requires.closed in
     at_err c.take.result _ (inr (subst (λ (es : List (List ℕ × State)). Puts n es c.args.key.now new) c.self.view_is
     (puts n c.self.inside.by_key.entries c.args.key.now new w c.in-Some.context.now c.in-Some.ensures.value
     (c.get_mut.follows.holds w).0 c.take.ensures.next closed)))

@@ -1,5 +1,5 @@
 use Rattle.std.proofs.Common.{false, ◌≡◌, ◌∷◌, ◌++◌, List, [], length, filter, nat_lt, refl, sym, ◌∙◌, ap, subst}
-use Rattle.cd_base.specs.Lists.{Member}
+use Rattle.cd_base.specs.Lists.{OneOf}
 use Rattle.cd_clause.specs.Derivations.{Redundant}
 use Rattle.cd_clause.specs.declared.elem.Elem.{Elem}
 use Rattle.cd_rules.specs.Facts.{ConcludesFrom}
@@ -26,14 +26,14 @@ pub close_with-requires-clause-in_turn : goal.close_with-requires-clause-in_turn
 close_with-requires-clause-in_turn c =
     let n = c.args.index.now.normal in
     let kept = subst (λ s. IsContext n s) (sym c.self.view_is) c.requires.context in
-    in_turn_told n c.self.inside.key (record { backs = c.self.inside.facts.backs; deads = c.self.inside.facts.deads }) (record { backs = c.backs-backs.result.now; deads = c.deads-deads.result.now }) c.self.inside.store.0 (joined c.self.inside.facts.backs c.backs-backs.result.now c.args.back ((c.backs-backs.ensures ∙ ap (λ (r : ByKind). r.backs) c.in_ok-add_back.ensures.ok) ∙ refl)) (λ x m. subst (λ w. Member x w) (sym (c.deads-deads.ensures ∙ ap (λ (r : ByKind). r.deads) c.in_ok-add_back.ensures.ok)) m) kept.in_turn
+    in_turn_told n c.self.inside.key (record { backs = c.self.inside.facts.backs; deads = c.self.inside.facts.deads }) (record { backs = c.backs-backs.result.now; deads = c.deads-deads.result.now }) c.self.inside.store.0 (joined c.self.inside.facts.backs c.backs-backs.result.now c.args.back ((c.backs-backs.ensures ∙ ap (λ (r : ByKind). r.backs) c.in_ok-add_back.ensures.ok) ∙ refl)) (λ x m. subst (λ w. OneOf x w) (sym (c.deads-deads.ensures ∙ ap (λ (r : ByKind). r.deads) c.in_ok-add_back.ensures.ok)) m) kept.in_turn
 
 pub close_with-requires-clause-concluded : goal.close_with-requires-clause-concluded
 close_with-requires-clause-concluded c = λ d m.
     let n = c.args.index.now.normal in
     let q : FromBack n c.self.inside.key c.self.inside.store.0 c.self.inside.store.1 c.args.back d
     = appended_only _ _ _ _ c.new-conclusions.ensures.items (c.in_ok-conclude_back.ensures c.self.inside.key) d m in
-    subst (λ w. ConcludesFrom n c.self.inside.key (λ c'. Member c' c.self.inside.store.0) c.backs-backs.result.now w d) (sym (c.deads-deads.ensures ∙ ap (λ (r : ByKind). r.deads) c.in_ok-add_back.ensures.ok)) (concluded_by_back n c.self.inside.key c.self.inside.facts.backs c.backs-backs.result.now c.self.inside.facts.deads c.args.back c.self.inside.store.0 c.self.inside.store.1 ((c.backs-backs.ensures ∙ ap (λ (r : ByKind). r.backs) c.in_ok-add_back.ensures.ok) ∙ refl) c.live-live.ensures.store.in_range d q)
+    subst (λ w. ConcludesFrom n c.self.inside.key (λ c'. OneOf c' c.self.inside.store.0) c.backs-backs.result.now w d) (sym (c.deads-deads.ensures ∙ ap (λ (r : ByKind). r.deads) c.in_ok-add_back.ensures.ok)) (concluded_by_back n c.self.inside.key c.self.inside.facts.backs c.backs-backs.result.now c.self.inside.facts.deads c.args.back c.self.inside.store.0 c.self.inside.store.1 ((c.backs-backs.ensures ∙ ap (λ (r : ByKind). r.backs) c.in_ok-add_back.ensures.ok) ∙ refl) c.live-live.ensures.store.in_range d q)
 
 pub returns-in_err-close_with-clause-keeps : goal.returns-in_err-close_with-clause-keeps
 returns-in_err-close_with-clause-keeps c =

@@ -1,5 +1,5 @@
 use Rattle.std.proofs.Common.{false, ◌≡◌, ◌∷◌, ◌++◌, List, [], length, filter, nat_lt, refl, sym, ◌∙◌, ap, subst}
-use Rattle.cd_base.specs.Lists.{Member}
+use Rattle.cd_base.specs.Lists.{OneOf}
 use Rattle.cd_clause.specs.Derivations.{Redundant}
 use Rattle.cd_clause.specs.declared.elem.Elem.{Elem}
 use Rattle.cd_rules.specs.Facts.{ConcludesFrom}
@@ -26,14 +26,14 @@ pub close_with-requires-clause-in_turn : goal.close_with-requires-clause-in_turn
 close_with-requires-clause-in_turn c =
     let n = c.args.index.now.normal in
     let kept = subst (λ s. IsContext n s) (sym c.self.view_is) c.requires.context in
-    in_turn_told n c.self.inside.key (record { backs = c.self.inside.facts.backs; deads = c.self.inside.facts.deads }) (record { backs = c.backs-backs.result.now; deads = c.deads-deads.result.now }) c.self.inside.store.0 (λ x m. subst (λ w. Member x w) (sym (c.backs-backs.ensures ∙ ap (λ (r : ByKind). r.backs) c.in_ok-add_dead.ensures.ok)) m) (joined c.self.inside.facts.deads c.deads-deads.result.now c.args.dead ((c.deads-deads.ensures ∙ ap (λ (r : ByKind). r.deads) c.in_ok-add_dead.ensures.ok) ∙ refl)) kept.in_turn
+    in_turn_told n c.self.inside.key (record { backs = c.self.inside.facts.backs; deads = c.self.inside.facts.deads }) (record { backs = c.backs-backs.result.now; deads = c.deads-deads.result.now }) c.self.inside.store.0 (λ x m. subst (λ w. OneOf x w) (sym (c.backs-backs.ensures ∙ ap (λ (r : ByKind). r.backs) c.in_ok-add_dead.ensures.ok)) m) (joined c.self.inside.facts.deads c.deads-deads.result.now c.args.dead ((c.deads-deads.ensures ∙ ap (λ (r : ByKind). r.deads) c.in_ok-add_dead.ensures.ok) ∙ refl)) kept.in_turn
 
 pub close_with-requires-clause-concluded : goal.close_with-requires-clause-concluded
 close_with-requires-clause-concluded c = λ d m.
     let n = c.args.index.now.normal in
     let q : FromDead n c.self.inside.key c.self.inside.store.0 c.self.inside.store.1 c.args.dead d
     = appended_only _ _ _ _ c.new-conclusions.ensures.items (c.in_ok-conclude_dead.ensures c.self.inside.key) d m in
-    subst (λ w. ConcludesFrom n c.self.inside.key (λ c'. Member c' c.self.inside.store.0) w c.deads-deads.result.now d) (sym (c.backs-backs.ensures ∙ ap (λ (r : ByKind). r.backs) c.in_ok-add_dead.ensures.ok)) (concluded_by_dead n c.self.inside.key c.self.inside.facts.backs c.self.inside.facts.deads c.deads-deads.result.now c.args.dead c.self.inside.store.0 c.self.inside.store.1 ((c.deads-deads.ensures ∙ ap (λ (r : ByKind). r.deads) c.in_ok-add_dead.ensures.ok) ∙ refl) c.live-live.ensures.store.in_range d q)
+    subst (λ w. ConcludesFrom n c.self.inside.key (λ c'. OneOf c' c.self.inside.store.0) w c.deads-deads.result.now d) (sym (c.backs-backs.ensures ∙ ap (λ (r : ByKind). r.backs) c.in_ok-add_dead.ensures.ok)) (concluded_by_dead n c.self.inside.key c.self.inside.facts.backs c.self.inside.facts.deads c.deads-deads.result.now c.args.dead c.self.inside.store.0 c.self.inside.store.1 ((c.deads-deads.ensures ∙ ap (λ (r : ByKind). r.deads) c.in_ok-add_dead.ensures.ok) ∙ refl) c.live-live.ensures.store.in_range d q)
 
 pub returns-in_err-close_with-clause-keeps : goal.returns-in_err-close_with-clause-keeps
 returns-in_err-close_with-clause-keeps c =

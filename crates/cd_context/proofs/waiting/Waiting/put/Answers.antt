@@ -2,7 +2,7 @@ use Rattle.std.proofs.Common.{◌≡◌, ◌∷◌, inl, inr, map, nat_eq, true,
 use Rattle.std.specs.BinaryHeap.{heap_items}
 use Rattle.std.specs.HashSet.{contains}
 use Rattle.std.specs.List.{list_any}
-use Rattle.cd_base.specs.Lists.{Member}
+use Rattle.cd_base.specs.Lists.{OneOf}
 use Rattle.cd_context.specs.TakeUp.{IsPutInto}
 use Rattle.cd_context.specs.Waits.{numbers}
 use Rattle.cd_context.proofs.Least.{among_added, put_pairs, put_number}
@@ -27,6 +27,6 @@ invariant_of-self-2 c =
     let p : IsPutInto c.args.number (numbers (map (λ r. r.0) (heap_items c.self.inside.heap))) (numbers (map (λ r. r.0) (heap_items c.push.new.self)))
     = put_number (λ r. r.0) (record { 0 = (c.args.elements, c.args.number) }) (heap_items c.self.inside.heap) (heap_items c.push.new.self) c.in_ok-push.ensures.permutation in (
       c.in_ok-push.ensures.heap_order c.self.invariant.0,
-      among_added (λ n. Member n (numbers (map (λ r. r.0) (heap_items c.push.new.self)))) (contains nat_eq c.self.inside.numbers) (contains nat_eq c.insert.new.self) c.args.number
+      among_added (λ n. OneOf n (numbers (map (λ r. r.0) (heap_items c.push.new.self)))) (contains nat_eq c.self.inside.numbers) (contains nat_eq c.insert.new.self) c.args.number
           c.in_ok-insert.ensures.updates.0 (p.isin c.args.number (inl refl)) (λ n e. p.isin n (inr (c.self.invariant.1 n e))),
     )

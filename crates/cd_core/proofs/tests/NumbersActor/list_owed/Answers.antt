@@ -1,5 +1,5 @@
 use Rattle.std.proofs.Common.{◌≡◌, ◌<◌, ◌≤◌, ◌++◌, ◌∙◌, length, get_or, subst, ap, arith}
-use Rattle.cd_base.specs.Lists.{IsApart}
+use Rattle.cd_base.specs.Lists.{HasNoRepeats}
 use Rattle.cd_actor.specs.Cells.{At}
 use Rattle.cd_core.proofs.Numbers.{owed, owed_is, at_read, lists_some, lists_every, lists_more}
 use Rattle.cd_core.proofs.tests.NumbersActor.list_owed.Goals as goal
@@ -15,28 +15,28 @@ numbers-preserved c =
 
 pub returns-in_err-put_owed-clause-follows : goal.returns-in_err-put_owed-clause-follows
 returns-in_err-put_owed-clause-follows c =
-    let w = subst (λ u. u.0 < u.1) c.self.view_is c.self.invariant.0 in let a = subst (λ u. IsApart u.2) c.self.view_is c.self.invariant.1 in
+    let w = subst (λ u. u.0 < u.1) c.self.view_is c.self.invariant.0 in let a = subst (λ u. HasNoRepeats u.2) c.self.view_is c.self.invariant.1 in
     (lists_some c.args.self.now c.numbers.number-index c.args.out.now c.put_owed.new.out w a (c.in_err-put_owed.ensures.err ∙ c.numbers.invariant)).follows
 
 pub returns-in_err-put_owed-clause-sends : goal.returns-in_err-put_owed-clause-sends
 returns-in_err-put_owed-clause-sends c =
-    let w = subst (λ u. u.0 < u.1) c.self.view_is c.self.invariant.0 in let a = subst (λ u. IsApart u.2) c.self.view_is c.self.invariant.1 in
+    let w = subst (λ u. u.0 < u.1) c.self.view_is c.self.invariant.0 in let a = subst (λ u. HasNoRepeats u.2) c.self.view_is c.self.invariant.1 in
     (lists_some c.args.self.now c.numbers.number-index c.args.out.now c.put_owed.new.out w a (c.in_err-put_owed.ensures.err ∙ c.numbers.invariant)).sends
 
 pub returns-in_err-put_owed-clause-only : goal.returns-in_err-put_owed-clause-only
 returns-in_err-put_owed-clause-only c =
-    let w = subst (λ u. u.0 < u.1) c.self.view_is c.self.invariant.0 in let a = subst (λ u. IsApart u.2) c.self.view_is c.self.invariant.1 in
+    let w = subst (λ u. u.0 < u.1) c.self.view_is c.self.invariant.0 in let a = subst (λ u. HasNoRepeats u.2) c.self.view_is c.self.invariant.1 in
     (lists_some c.args.self.now c.numbers.number-index c.args.out.now c.put_owed.new.out w a (c.in_err-put_owed.ensures.err ∙ c.numbers.invariant)).only
 
 pub returns-in_err-put_owed-clause-once : goal.returns-in_err-put_owed-clause-once
 returns-in_err-put_owed-clause-once c =
-    let w = subst (λ u. u.0 < u.1) c.self.view_is c.self.invariant.0 in let a = subst (λ u. IsApart u.2) c.self.view_is c.self.invariant.1 in
+    let w = subst (λ u. u.0 < u.1) c.self.view_is c.self.invariant.0 in let a = subst (λ u. HasNoRepeats u.2) c.self.view_is c.self.invariant.1 in
     (lists_some c.args.self.now c.numbers.number-index c.args.out.now c.put_owed.new.out w a (c.in_err-put_owed.ensures.err ∙ c.numbers.invariant)).once
 
 pub returns : goal.returns
 returns c =
     let v = c.args.self.now in
-    let w : v.0 < v.1 = subst (λ u. u.0 < u.1) c.self.view_is c.self.invariant.0 in let a : IsApart v.2 = subst (λ u. IsApart u.2) c.self.view_is c.self.invariant.1 in
+    let w : v.0 < v.1 = subst (λ u. u.0 < u.1) c.self.view_is c.self.invariant.0 in let a : HasNoRepeats v.2 = subst (λ u. HasNoRepeats u.2) c.self.view_is c.self.invariant.1 in
     let items : c.deref-number-items.result.now ≡ v.2 = c.deref-number-items.ensures.value ∙ ap (λ u. u.2) c.self.view_is in
     let end : length v.2 ≤ c.numbers.number-index = subst (λ q. length q ≤ c.numbers.number-index) items (omega arith) in
     let r = lists_some v c.numbers.number-index c.args.out.now c.numbers.out w a c.numbers.invariant in

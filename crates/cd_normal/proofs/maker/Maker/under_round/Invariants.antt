@@ -1,6 +1,6 @@
 use Rattle.std.proofs.Common.{◌≡◌, ◌+◌, ◌≤◌, take}
 use Rattle.cd_normal.specs.Made.{rows, Adds, role_link}
-use Rattle.cd_normal.specs.Method.{circle}
+use Rattle.cd_normal.specs.NormalForm.{circle}
 use Rattle.cd_normal.proofs.maker.Maker.under_round.Given as goal
 
 abbrev pub invariant-loop-at : goal.invariant-loop-at

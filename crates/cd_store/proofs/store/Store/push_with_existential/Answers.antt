@@ -1,5 +1,5 @@
 use Rattle.std.proofs.Common.{◌⊎◌, ℕ, List, sym, subst}
-use Rattle.cd_base.specs.Lists.{Member}
+use Rattle.cd_base.specs.Lists.{OneOf}
 use Rattle.cd_clause.specs.declared.elem.Elem.TheVariants.{Exist}
 use Rattle.cd_store.specs.Filing.{ends_in, goes_on_from, listed}
 use Rattle.cd_store.specs.LookUps.{HasElem}
@@ -10,13 +10,13 @@ use Rattle.cd_store.proofs.store.Store.push_with_existential.Goals as goal
 pub returns : goal.returns
 returns c =
     let f = c.self.inside.filing in
-    let P : ℕ → Type 0 = λ m. Member m (listed f (ends_in (Exist c.args.role c.args.key.now))) in
-    let R : ℕ → Type 0 = λ m. Member m (listed f (goes_on_from (Exist c.args.role c.args.key.now))) in
+    let P : ℕ → Type 0 = λ m. OneOf m (listed f (ends_in (Exist c.args.role c.args.key.now))) in
+    let R : ℕ → Type 0 = λ m. OneOf m (listed f (goes_on_from (Exist c.args.role c.args.key.now))) in
     let old = c.args.found.now.items in
     let mid = c.extend_from_slice.new.self.items in
     let new = c.extend_from_slice-2.new.self.items in
     gain_less (HasElem c.args.self.now.0 (Exist c.args.role c.args.key.now)) (λ m. P m ⊎ R m) old new
     (λ m h. elem_listed f c.args.self.now c.self.inside.clauses.items c.self.inside.live.items (Exist c.args.role c.args.key.now) m c.self.view_is c.self.invariant.1 h)
     (gain_both P R old mid new
-    (gain_list P old mid c.ending_in_existential.result.now c.in_ok-extend_from_slice.ensures.items (λ m h. subst (λ (l : List ℕ). Member m l) (sym c.ending_in_existential.ensures) h))
-    (gain_list R mid new c.going_on_from_existential.result.now c.in_ok-extend_from_slice-2.ensures.items (λ m h. subst (λ (l : List ℕ). Member m l) (sym c.going_on_from_existential.ensures) h)))
+    (gain_list P old mid c.ending_in_existential.result.now c.in_ok-extend_from_slice.ensures.items (λ m h. subst (λ (l : List ℕ). OneOf m l) (sym c.ending_in_existential.ensures) h))
+    (gain_list R mid new c.going_on_from_existential.result.now c.in_ok-extend_from_slice-2.ensures.items (λ m h. subst (λ (l : List ℕ). OneOf m l) (sym c.going_on_from_existential.ensures) h)))

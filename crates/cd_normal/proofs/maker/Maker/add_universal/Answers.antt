@@ -1,6 +1,6 @@
 use Rattle.std.proofs.Common.{rules, refl}
 use Rattle.cd_normal.proofs.Adding.{added_n4}
-use Rattle.cd_normal.proofs.maker.Maker.far.Goals as goal
+use Rattle.cd_normal.proofs.maker.Maker.add_universal.Goals as goal
 
 pub returns-clause-adds : goal.returns-clause-adds
 returns-clause-adds c = added_n4 c.args.self.now (record c.args.self.now { n4 = c.push.new.self }) (record { atom = c.args.atom; role = c.args.role; other = c.args.other }) (search rules) refl refl refl refl

@@ -7,7 +7,7 @@ use Rattle.cd_syntax.specs.declared.words.AxiomForm.{AxiomForm}
 use Rattle.cd_syntax.specs.declared.words.AxiomForm.TheVariants.{SubClassOf, EquivalentClasses, DisjointClasses, DisjointUnion, SubObjectPropertyOf, EquivalentObjectProperties, ObjectPropertyDomain, ObjectPropertyRange}
 use Rattle.cd_syntax.specs.declared.words.ExprForm.{ExprForm}
 use Rattle.cd_syntax.specs.declared.words.ExprForm.TheVariants.{ObjectIntersectionOf, ObjectUnionOf, ObjectComplementOf, ObjectSomeValuesFrom, ObjectAllValuesFrom}
-use Rattle.cd_syntax.specs.declared.words.Key.{Key}
+use Rattle.cd_syntax.specs.declared.words.Keyword.{Keyword}
 use Rattle.cd_syntax.specs.Constructs.{entry, refused_roles, refused_classes, refused_data, first_of, refused_number}
 use Rattle.cd_syntax.specs.Grammar.{other_entities, annotation_axioms}
 use Rattle.cd_syntax.specs.Words.{axiom_forms, expr_forms, other_words, first_key, key_of}
@@ -34,24 +34,24 @@ found P (e ∷ more) w x all h = found_at P e (entry more w) w x (bytes_eq w e.0
 -- ---- words
 
 -- the word is one of these
-abbrev pub OneOf : List (List ℕ) → List ℕ → Type 0
-OneOf [] w = ⊥
-OneOf (v ∷ more) w = (w ≡ v) ⊎ OneOf more w
+abbrev pub IsOneWordOf : List (List ℕ) → List ℕ → Type 0
+IsOneWordOf [] w = ⊥
+IsOneWordOf (v ∷ more) w = (w ≡ v) ⊎ IsOneWordOf more w
 
-contained : (words : List (List ℕ)) (w : List ℕ) (k : ℕ) → k < length words → slice_index_or words k w ≡ w → OneOf words w
+contained : (words : List (List ℕ)) (w : List ℕ) (k : ℕ) → k < length words → slice_index_or words k w ≡ w → IsOneWordOf words w
 contained [] w k less is = absurd (omega arith)
 contained (v ∷ words) w zero less is = inl (sym is)
 contained (v ∷ words) w (suc k) less is = inr (contained words w k (omega arith) is)
 
-pub one_of : (words : List (List ℕ)) (w : List ℕ) → Contains words w → OneOf words w
+pub one_of : (words : List (List ℕ)) (w : List ℕ) → Contains words w → IsOneWordOf words w
 one_of words w (k, less, is) = contained words w k less is
 
-pub contains_of : (words : List (List ℕ)) (w : List ℕ) → OneOf words w → Contains words w
+pub contains_of : (words : List (List ℕ)) (w : List ℕ) → IsOneWordOf words w → Contains words w
 contains_of [] w h = absurd h
 contains_of (v ∷ words) w (inl is) = (0, omega arith, sym is)
 contains_of (v ∷ words) w (inr h) = let (k, less, is) = contains_of words w h in (suc k, omega arith, is)
 
-pub only_word : (v w : List ℕ) → OneOf (v ∷ []) w → w ≡ v
+pub only_word : (v w : List ℕ) → IsOneWordOf (v ∷ []) w → w ≡ v
 only_word v w (inl is) = is
 only_word v w (inr none) = absurd none
 
@@ -75,29 +75,29 @@ expr_word ObjectSomeValuesFrom = codes "ObjectSomeValuesFrom"
 expr_word ObjectAllValuesFrom = codes "ObjectAllValuesFrom"
 
 -- a word with this key is one of these
-abbrev pub words_of : Key → List (List ℕ)
-words_of Key.Prefix = codes "Prefix" ∷ []
-words_of Key.Ontology = codes "Ontology" ∷ []
-words_of Key.Annotation = codes "Annotation" ∷ []
-words_of Key.Declaration = codes "Declaration" ∷ []
-words_of Key.Class = codes "Class" ∷ []
-words_of Key.Entity = other_entities
-words_of Key.AnnotationAssertion = codes "AnnotationAssertion" ∷ []
-words_of Key.AnnotationAxiom = annotation_axioms
-words_of (Key.Axiom form) = axiom_word form ∷ []
-words_of (Key.Expr form) = expr_word form ∷ []
+abbrev pub words_of : Keyword → List (List ℕ)
+words_of Keyword.Prefix = codes "Prefix" ∷ []
+words_of Keyword.Ontology = codes "Ontology" ∷ []
+words_of Keyword.Annotation = codes "Annotation" ∷ []
+words_of Keyword.Declaration = codes "Declaration" ∷ []
+words_of Keyword.Class = codes "Class" ∷ []
+words_of Keyword.Entity = other_entities
+words_of Keyword.AnnotationAssertion = codes "AnnotationAssertion" ∷ []
+words_of Keyword.AnnotationAxiom = annotation_axioms
+words_of (Keyword.Axiom form) = axiom_word form ∷ []
+words_of (Keyword.Expr form) = expr_word form ∷ []
 words_of key = []
 
 -- what the key says of its word
-abbrev pub Says : Key → List ℕ → Type 0
-Says (Key.Refused n) w = refused_number w ≡ Some n
-Says Key.Other w = Unit {0}
-Says key w = OneOf (words_of key) w
+abbrev pub Says : Keyword → List ℕ → Type 0
+Says (Keyword.Refused n) w = refused_number w ≡ Some n
+Says Keyword.Other w = Unit {0}
+Says key w = IsOneWordOf (words_of key) w
 
-all_axioms : AllEntries (λ w form. Says (Key.Axiom form) w) axiom_forms
+all_axioms : AllEntries (λ w form. Says (Keyword.Axiom form) w) axiom_forms
 all_axioms = (inl refl, (inl refl, (inl refl, (inl refl, (inl refl, (inl refl, (inl refl, (inl refl, tt))))))))
 
-all_expressions : AllEntries (λ w form. Says (Key.Expr form) w) expr_forms
+all_expressions : AllEntries (λ w form. Says (Keyword.Expr form) w) expr_forms
 all_expressions = (inl refl, (inl refl, (inl refl, (inl refl, (inl refl, tt)))))
 
 all_others : AllEntries (λ w key. Says key w) other_words
@@ -106,10 +106,10 @@ all_others = (
   (inl refl, (inl refl, (inl refl, (inl refl, (inl refl, (inr (inl refl), (inr (inr (inl refl)), (inr (inr (inr (inl refl))), (inr (inr (inr (inr (inl refl)))), (inl refl, (inl refl, (inr (inl refl), (inr (inr (inl refl)), tt))))))))))))),
 )
 
-says_by : (w : List ℕ) (a : Option AxiomForm) (b : Option ExprForm) (c : Option Key) (d : Option ℕ) → entry axiom_forms w ≡ a → entry expr_forms w ≡ b
+says_by : (w : List ℕ) (a : Option AxiomForm) (b : Option ExprForm) (c : Option Keyword) (d : Option ℕ) → entry axiom_forms w ≡ a → entry expr_forms w ≡ b
     → entry other_words w ≡ c → refused_number w ≡ d → Says (first_key a b c d) w
-says_by w (Some form) b c d as_axiom as_expression as_other as_refused = found (λ v f. Says (Key.Axiom f) v) axiom_forms w form all_axioms as_axiom
-says_by w None (Some form) c d as_axiom as_expression as_other as_refused = found (λ v f. Says (Key.Expr f) v) expr_forms w form all_expressions as_expression
+says_by w (Some form) b c d as_axiom as_expression as_other as_refused = found (λ v f. Says (Keyword.Axiom f) v) axiom_forms w form all_axioms as_axiom
+says_by w None (Some form) c d as_axiom as_expression as_other as_refused = found (λ v f. Says (Keyword.Expr f) v) expr_forms w form all_expressions as_expression
 says_by w None None (Some key) d as_axiom as_expression as_other as_refused = found (λ v k. Says k v) other_words w key all_others as_other
 says_by w None None None (Some n) as_axiom as_expression as_other as_refused = as_refused
 says_by w None None None None as_axiom as_expression as_other as_refused = tt
@@ -119,12 +119,12 @@ pub says : (w : List ℕ) → Says (key_of w) w
 says w = says_by w (entry axiom_forms w) (entry expr_forms w) (entry other_words w) (refused_number w) refl refl refl refl
 
 -- a word by its key
-pub says_key : (w : List ℕ) (key : Key) → key_of w ≡ key → Says key w
-says_key w key h = subst (λ (k : Key). Says k w) h (says w)
+pub says_key : (w : List ℕ) (key : Keyword) → key_of w ≡ key → Says key w
+says_key w key h = subst (λ (k : Keyword). Says k w) h (says w)
 
 -- ---- keys
 
-pub entity_key : (w : List ℕ) → OneOf other_entities w → key_of w ≡ Key.Entity
+pub entity_key : (w : List ℕ) → IsOneWordOf other_entities w → key_of w ≡ Keyword.Entity
 entity_key w (inl is) = ap key_of is
 entity_key w (inr (inl is)) = ap key_of is
 entity_key w (inr (inr (inl is))) = ap key_of is
@@ -132,7 +132,7 @@ entity_key w (inr (inr (inr (inl is)))) = ap key_of is
 entity_key w (inr (inr (inr (inr (inl is))))) = ap key_of is
 entity_key w (inr (inr (inr (inr (inr none))))) = absurd none
 
-pub annotation_axiom_key : (w : List ℕ) → OneOf annotation_axioms w → key_of w ≡ Key.AnnotationAxiom
+pub annotation_axiom_key : (w : List ℕ) → IsOneWordOf annotation_axioms w → key_of w ≡ Keyword.AnnotationAxiom
 annotation_axiom_key w (inl is) = ap key_of is
 annotation_axiom_key w (inr (inl is)) = ap key_of is
 annotation_axiom_key w (inr (inr (inl is))) = ap key_of is
@@ -140,7 +140,7 @@ annotation_axiom_key w (inr (inr (inr none))) = absurd none
 
 -- the word is known as this refused construct
 abbrev IsRefusedKey : List ℕ → ℕ → Type 0
-IsRefusedKey w n = key_of w ≡ Key.Refused n
+IsRefusedKey w n = key_of w ≡ Keyword.Refused n
 
 all_roles : AllEntries IsRefusedKey refused_roles
 all_roles = (refl, (refl, (refl, (refl, (refl, (refl, (refl, (refl, (refl, (refl, (refl, (refl, tt))))))))))))
@@ -158,5 +158,5 @@ refused_by w n None (Some m) c in_roles in_classes in_data h = found IsRefusedKe
 refused_by w n None None c in_roles in_classes in_data h = found IsRefusedKey refused_data w n all_data (in_data ∙ h)
 
 -- the word of a refused construct is no other word of the grammar
-pub refused_key : (w : List ℕ) (n : ℕ) → refused_number w ≡ Some n → key_of w ≡ Key.Refused n
+pub refused_key : (w : List ℕ) (n : ℕ) → refused_number w ≡ Some n → key_of w ≡ Keyword.Refused n
 refused_key w n h = refused_by w n (entry refused_roles w) (entry refused_classes w) (entry refused_data w) refl refl refl h
