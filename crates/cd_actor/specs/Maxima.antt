@@ -5,8 +5,10 @@ use Rattle.cd_base.specs.declared.limit_kind.LimitKind.TheVariants.{Contexts, Fa
 
 -- of these two sums, that of this kind has reached its maximum, and the number is that sum; the contexts come first
 abbrev pub Reaches : ℕ → ℕ → ℕ → ℕ → LimitKind → ℕ → Type 0
-Reaches contexts facts max_contexts max_facts Contexts number = (number ≡ contexts) × (max_contexts ≤ number)
-Reaches contexts facts max_contexts max_facts Facts number = (number ≡ facts) × (max_facts ≤ number) × (contexts < max_contexts)
+Reaches contexts facts max_contexts max_facts Contexts number =
+    (number ≡ contexts) × (max_contexts ≤ number)
+Reaches contexts facts max_contexts max_facts Facts number =
+    (number ≡ facts) × (max_facts ≤ number) × (contexts < max_contexts)
 
 -- neither sum has reached its maximum
 pub record AreBelow (contexts facts max_contexts max_facts : ℕ) : Type 0 where

@@ -12,7 +12,8 @@ abbrev pub KeepsFamily : {A M : Type 0} → Meaning A M → List A → List A �
 KeepsFamily g cells cells_new = (f : g.Family) → AreOf g f cells → AreOf g f cells_new
 
 -- what cells with these messages have come to where nothing pends
-pub record IsSettled {A M : Type 0} (g : Meaning A M) (cells : List A) (pending : List (ℕ × M)) (after : List A) : Type 0 where
+pub record IsSettled {A M : Type 0} (g : Meaning A M) (cells : List A) (pending : List (ℕ × M))
+    (after : List A) : Type 0 where
   pub are_cells : AreCells g after
   pub family : KeepsFamily g cells after
   -- each message that was had or pended is had

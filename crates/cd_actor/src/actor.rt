@@ -39,7 +39,8 @@ pub trait Actor {
         requires lawful { meaning.lawful self.old (meaning.place self.old) message }
         ensures keeps { Keeps meaning self.old self.new }
         ensures sends { Sends (meaning.lawful self.old) out.old out.new }
-        ensures delivers { OnOk result (Delivers meaning self.old message self.new (sent out.old out.new)) }
+        ensures delivers { OnOk result
+            (Delivers meaning self.old message self.new (sent out.old out.new)) }
         ensures again { meaning.has self.old message ≡ true → IsSame meaning self.old self.new }
         ensures quiet { meaning.has self.old message ≡ true → out.new ≡ out.old };
 
@@ -57,9 +58,11 @@ pub trait Actor {
     fn list_owed(&self, alloc: Global, out: &mut Outbox<Self::Msg>) -> Result<(), Memory>
         ensures follows { out.new ≡ out.old ++ sent out.old out.new }
         ensures sends { meaning.whole self.now → Sends (meaning.lawful self.now) out.old out.new }
-        ensures only { (p : ℕ) (m : Self.Msg) → OneOf (p, m) (sent out.old out.new) → meaning.owes self.now p m }
+        ensures only { (p : ℕ) (m : Self.Msg) → OneOf (p, m) (sent out.old out.new)
+            → meaning.owes self.now p m }
         ensures once { HasNoRepeats (sent out.old out.new) }
-        ensures every { OnOk result ((p : ℕ) (m : Self.Msg) → meaning.owes self.now p m → OneOf (p, m) (sent out.old out.new)) };
+        ensures every { OnOk result ((p : ℕ) (m : Self.Msg) → meaning.owes self.now p m
+            → OneOf (p, m) (sent out.old out.new)) };
 
     /// How many contexts it has. A cell that has more than the last `u64` says that.
     fn contexts(&self) -> u64
@@ -70,14 +73,18 @@ pub trait Actor {
         ensures { result ≡ meaning.facts self.now };
 
     /// Cells of one family have the same number of places.
-    ghost same_places: { (a b : Self) → meaning.family a ≡ meaning.family b → meaning.places a ≡ meaning.places b };
+    ghost same_places: { (a b : Self) → meaning.family a ≡ meaning.family b
+        → meaning.places a ≡ meaning.places b };
 
     /// Cells of one family have the same lawful messages.
-    ghost same_lawful: { (a b : Self) → meaning.family a ≡ meaning.family b → (p : ℕ) (m : Self.Msg) → meaning.lawful a p m → meaning.lawful b p m };
+    ghost same_lawful: { (a b : Self) → meaning.family a ≡ meaning.family b
+        → (p : ℕ) (m : Self.Msg) → meaning.lawful a p m → meaning.lawful b p m };
 
     /// What is lawful for the cell of a place is lawful only at a place of the family.
-    ghost lawful_below: { (a : Self) (p : ℕ) (m : Self.Msg) → meaning.lawful a p m → p < meaning.places a };
+    ghost lawful_below: { (a : Self) (p : ℕ) (m : Self.Msg) → meaning.lawful a p m
+        → p < meaning.places a };
 
     /// What a whole cell owes is lawful for the cell that it owes it to.
-    ghost owed_lawful: { (a : Self) (p : ℕ) (m : Self.Msg) → meaning.whole a → meaning.owes a p m → meaning.lawful a p m };
+    ghost owed_lawful: { (a : Self) (p : ℕ) (m : Self.Msg) → meaning.whole a → meaning.owes a p m
+        → meaning.lawful a p m };
 }

@@ -6,7 +6,8 @@ use cd_base::{LimitKind, Limits};
 
 /// Which of the two sums has reached its maximum, the contexts first, and that sum. `None` exactly where both are below. Constant time.
 pub fn reached(contexts: u64, facts: u64, limits: &Limits) -> Option<(LimitKind, u64)>
-    ensures { MatchOption result (AreBelow contexts facts limits.now.max_contexts limits.now.max_facts)
+    ensures { MatchOption result
+        (AreBelow contexts facts limits.now.max_contexts limits.now.max_facts)
         (λ x. Reaches contexts facts limits.now.max_contexts limits.now.max_facts x.0 x.1) }
 {
     if contexts >= limits.max_contexts {

@@ -20,9 +20,11 @@ where
     A::Msg: Drop,
     requires { AreCells A.meaning cells.now }
     ensures follows { OnOk result (pending.new ≡ pending.old ++ sent pending.old pending.new) }
-    ensures owed { OnOk result (IsOwedInTurn A.meaning cells.now cells.now (sent pending.old pending.new)) }
+    ensures owed { OnOk result (IsOwedInTurn A.meaning cells.now cells.now
+        (sent pending.old pending.new)) }
     ensures lawful { OnOk result (AreAllLawful A.meaning cells.now (sent pending.old pending.new)) }
-    ensures covered { OnOk result (IsOwedCovered A.meaning cells.now (sent pending.old pending.new)) }
+    ensures covered { OnOk result
+        (IsOwedCovered A.meaning cells.now (sent pending.old pending.new)) }
 {
     'cells: for cell in cells {
         let mut owed = Outbox::new(alloc);
@@ -43,7 +45,8 @@ where
     requires lawful { AreAllLawful A.meaning cells.now messages }
     requires apart { HasNoRepeats messages }
     ensures follows { OnOk result (pending.new ≡ pending.old ++ sent pending.old pending.new) }
-    ensures not_had { OnOk result (IsNotHadOf A.meaning cells.now messages (sent pending.old pending.new)) }
+    ensures not_had { OnOk result
+        (IsNotHadOf A.meaning cells.now messages (sent pending.old pending.new)) }
 {
     'messages: while let Some((cell, message)) = messages.take() {
         let place = cell as usize;

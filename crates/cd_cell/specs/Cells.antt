@@ -34,7 +34,8 @@ state_at (e ∷ es) key = if same_key key e.0 then Some e.1 else state_at es key
 
 -- whether the context of the note's key is among these and has its fact
 abbrev pub has_note : List (List ℕ × State) → Note → Bool
-has_note contexts note = option_map_or (λ s. has_fact s note.fact) (state_at contexts note.key) false
+has_note contexts note = option_map_or (λ s. has_fact s note.fact)
+    (state_at contexts note.key) false
 
 -- the note goes to this one of so many cells, its key can be reached, and its fact is justified there
 pub record IsLawfulNote (n : Normal) (cells p : ℕ) (note : Note) : Type 0 where
@@ -44,7 +45,8 @@ pub record IsLawfulNote (n : Normal) (cells p : ℕ) (note : Note) : Type 0 wher
   pub justified : Justified n note.key note.fact
 
 -- one of these contexts owes the note, and this is the cell of its key
-pub record OwesFrom (n : Normal) (cells : ℕ) (contexts : List (List ℕ × State)) (p : ℕ) (note : Note) : Type 0 where
+pub record OwesFrom (n : Normal) (cells : ℕ) (contexts : List (List ℕ × State)) (p : ℕ)
+    (note : Note) : Type 0 where
   pub key : List ℕ
   pub state : State
   pub here : OneOf (key, state) contexts
@@ -91,4 +93,5 @@ meaning = record {
 -- what a cell's value keeps at every moment: each of its contexts what a context keeps, and closed while no delivery has wanted for memory
 pub record IsSound (c : CellState) : Type 0 where
   pub cell : IsCell c.normal c.number c.cells c.contexts
-  pub closed : c.failed ≡ false → (h : List ℕ) (s : State) → OneOf (h, s) c.contexts → ClosedLocally c.normal s
+  pub closed : c.failed ≡ false → (h : List ℕ) (s : State) → OneOf (h, s) c.contexts
+      → ClosedLocally c.normal s

@@ -13,8 +13,10 @@ use Rattle.cd_context.specs.State.{State, live_of}
 pub record Closed (n : Normal) (keys : List (List ℕ)) (state : List ℕ → State) : Type 0 where
   pub own : (h : List ℕ) → OneOf h keys → (state h).key ≡ h
   pub locally : (h : List ℕ) → OneOf h keys → ClosedLocally n (state h)
-  pub had : (h : List ℕ) → OneOf h keys → (note : Note) → Owes n (state h) note → OneOf note.key keys × (has_fact (state note.key) note.fact ≡ true)
+  pub had : (h : List ℕ) → OneOf h keys → (note : Note) → Owes n (state h) note
+      → OneOf note.key keys × (has_fact (state note.key) note.fact ≡ true)
 
 -- closed contexts are saturated
 abbrev pub Saturation : Type 0
-Saturation = (n : Normal) (keys : List (List ℕ)) (state : List ℕ → State) → Closed n keys state → Saturated n keys (λ k. live_of (state k))
+Saturation = (n : Normal) (keys : List (List ℕ)) (state : List ℕ → State) → Closed n keys state
+    → Saturated n keys (λ k. live_of (state k))

@@ -14,9 +14,12 @@ use Rattle.cd_cell.specs.Cells.{CellState, OwesFrom, meaning}
 pub record AreSettled (n : Normal) (cells : List CellState) : Type 0 where
   pub are_cells : AreCells meaning cells
   pub normal : (i : ℕ) (c : CellState) → At cells i c → c.normal ≡ n
-  pub had : (i : ℕ) (c : CellState) → At cells i c → (p : ℕ) (note : Note) → OwesFrom c.normal c.cells c.contexts p note → Had meaning cells (p, note)
+  pub had : (i : ℕ) (c : CellState) → At cells i c → (p : ℕ) (note : Note)
+      → OwesFrom c.normal c.cells c.contexts p note → Had meaning cells (p, note)
 
 -- in closed cells the context of each atom is exact
 abbrev pub CellExactness : Type 0
-CellExactness = (n : Normal) (below : ℕ → ℕ → Bool) → IsClosure n below → RolesInRange n → (cells : List CellState) → AreSettled n cells
-    → (i : ℕ) (c : CellState) → At cells i c → (a : ℕ) (s : State) → OneOf (plain a ∷ [], s) c.contexts → Exact n a (live_of s)
+CellExactness = (n : Normal) (below : ℕ → ℕ → Bool) → IsClosure n below → RolesInRange n
+    → (cells : List CellState) → AreSettled n cells
+    → (i : ℕ) (c : CellState) → At cells i c → (a : ℕ) (s : State)
+    → OneOf (plain a ∷ [], s) c.contexts → Exact n a (live_of s)

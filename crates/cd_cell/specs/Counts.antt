@@ -24,5 +24,7 @@ HasFacts n number = (states : List State) × AreContexts n states × (number ≤
 
 -- the cells' counts are no more than there are
 abbrev pub CellCounts : Type 0
-CellCounts = (n : Normal) (cells : List CellState) → AreCells meaning cells → ((i : ℕ) (c : CellState) → At cells i c → c.normal ≡ n)
-    → HasContexts n (total (λ c. contexts_of c.contexts) cells) × HasFacts n (total (λ c. facts_of c.contexts) cells)
+CellCounts = (n : Normal) (cells : List CellState) → AreCells meaning cells
+    → ((i : ℕ) (c : CellState) → At cells i c → c.normal ≡ n)
+    → HasContexts n (total (λ c. contexts_of c.contexts) cells)
+    × HasFacts n (total (λ c. facts_of c.contexts) cells)

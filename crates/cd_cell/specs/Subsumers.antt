@@ -14,7 +14,9 @@ use Rattle.cd_context.specs.State.{State, live_of}
 -- which ascend
 abbrev pub IsSubsumersOf : Normal → List (List Elem) → Answer → Type 0
 IsSubsumersOf n live Unsatisfiable = OneOf [] live
-IsSubsumersOf n live (Of atoms) = (OneOf [] live → ⊥) × IsStrictlyIncreasing atoms × ((b : ℕ) → OneOf b atoms ↔ ((is_named n b ≡ true) × IsSingle live b))
+IsSubsumersOf n live (Of atoms) =
+    (OneOf [] live → ⊥) × IsStrictlyIncreasing atoms
+    × ((b : ℕ) → OneOf b atoms ↔ ((is_named n b ≡ true) × IsSingle live b))
 
 -- the key of the atom alone has a context among these
 abbrev pub HasContext : List (List ℕ × State) → ℕ → Type 0
@@ -22,4 +24,5 @@ HasContext contexts a = (s : State) × OneOf (plain a ∷ [], s) contexts
 
 -- the answer is that of the context of the atom alone
 abbrev pub IsSubsumersIn : Normal → List (List ℕ × State) → ℕ → Answer → Type 0
-IsSubsumersIn n contexts a answer = (s : State) → OneOf (plain a ∷ [], s) contexts → IsSubsumersOf n (live_of s) answer
+IsSubsumersIn n contexts a answer = (s : State) → OneOf (plain a ∷ [], s) contexts
+    → IsSubsumersOf n (live_of s) answer

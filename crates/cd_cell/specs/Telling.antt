@@ -36,26 +36,35 @@ pub record IsNext (n : Normal) (before : Option State) (key : List ℕ) (s : Sta
 
 -- the state is closed and has the fact, and more than there was before where the fact is new; the notes are justified for keys that can
 -- be reached, and each note that the state owes was owed before or is one of them
-pub record Takes (n : Normal) (before : Option State) (fact : Fact) (s : State) (notes : List Note) : Type 0 where
+pub record Takes (n : Normal) (before : Option State) (fact : Fact) (s : State)
+    (notes : List Note) : Type 0 where
   pub closed : ClosedLocally n s
   pub had : has_fact s fact ≡ true
-  pub risen : (b : State) → before ≡ Some b → has_fact b fact ≡ false → (count b < count s) ⊎ (count s ≡ last)
-  pub lawful : (note : Note) → OneOf note notes → Reachable n note.key × Justified n note.key note.fact
-  pub every : (note : Note) → Owes n s note → ((b : State) × (before ≡ Some b) × Owes n b note) ⊎ OneOf note notes
+  pub risen : (b : State) → before ≡ Some b → has_fact b fact ≡ false
+      → (count b < count s) ⊎ (count s ≡ last)
+  pub lawful : (note : Note) → OneOf note notes
+      → Reachable n note.key × Justified n note.key note.fact
+  pub every : (note : Note) → Owes n s note
+      → ((b : State) × (before ≡ Some b) × Owes n b note) ⊎ OneOf note notes
 
 -- the context of the key has come to a state, with all that was there before
-pub record Puts (n : Normal) (old : List (List ℕ × State)) (key : List ℕ) (new : List (List ℕ × State)) : Type 0 where
+pub record Puts (n : Normal) (old : List (List ℕ × State)) (key : List ℕ)
+    (new : List (List ℕ × State)) : Type 0 where
   pub state : State
   pub is : new ≡ put old key state
   pub next : IsNext n (state_at old key) key state
 
 -- the context of the key has taken the fact, and the notes are what it came to owe
-pub record Tells (n : Normal) (old : List (List ℕ × State)) (key : List ℕ) (fact : Fact) (new : List (List ℕ × State)) (notes : List Note) : Type 0 where
+pub record Tells (n : Normal) (old : List (List ℕ × State)) (key : List ℕ) (fact : Fact)
+    (new : List (List ℕ × State)) (notes : List Note) : Type 0 where
   pub puts : Puts n old key new
   pub takes : Takes n (state_at old key) fact puts.state notes
 
 -- the notes are those that one of the contexts owes, each once
-pub record AreOwed (n : Normal) (contexts : List (List ℕ × State)) (notes : List Note) : Type 0 where
-  pub only : (note : Note) → OneOf note notes → (h : List ℕ) × (s : State) × OneOf (h, s) contexts × Owes n s note
+pub record AreOwed (n : Normal) (contexts : List (List ℕ × State))
+    (notes : List Note) : Type 0 where
+  pub only : (note : Note) → OneOf note notes
+      → (h : List ℕ) × (s : State) × OneOf (h, s) contexts × Owes n s note
   pub once : HasNoRepeats notes
-  pub every : (h : List ℕ) (s : State) → OneOf (h, s) contexts → (note : Note) → Owes n s note → OneOf note notes
+  pub every : (h : List ℕ) (s : State) → OneOf (h, s) contexts → (note : Note) → Owes n s note
+      → OneOf note notes

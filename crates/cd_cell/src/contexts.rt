@@ -33,7 +33,8 @@ impl Model for Contexts {
 
     ghost view = { λ c. c.by_key.entries };
 
-    ghost invariant = { λ c. (c.facts ≡ facts_of c.by_key.entries) × HasNoRepeats (map (λ e. e.0) c.by_key.entries) };
+    ghost invariant = { λ c. (c.facts ≡ facts_of c.by_key.entries)
+        × HasNoRepeats (map (λ e. e.0) c.by_key.entries) };
 }
 
 impl Contexts {
@@ -106,9 +107,12 @@ impl Contexts {
         requires closed { AreClosedContexts index.now.normal self.old }
         requires reachable { Reachable index.now.normal key.now }
         requires justified { Justified index.now.normal key.now fact }
-        requires fresh { (s : State) → state_at self.old key.now ≡ Some s → has_fact s fact ≡ false }
-        ensures ok { IfOk result (λ notes. Tells index.now.normal self.old key.now fact self.new notes.items) }
-        ensures err { OnErr result ((self.new ≡ self.old) ⊎ Puts index.now.normal self.old key.now self.new) }
+        requires fresh { (s : State) → state_at self.old key.now ≡ Some s
+            → has_fact s fact ≡ false }
+        ensures ok { IfOk result (λ notes.
+            Tells index.now.normal self.old key.now fact self.new notes.items) }
+        ensures err { OnErr result ((self.new ≡ self.old)
+            ⊎ Puts index.now.normal self.old key.now self.new) }
     {
         match self.by_key.get_mut(key) {
             Some(context) => take(context, &mut self.facts, alloc, index, fact),
@@ -129,7 +133,8 @@ impl Contexts {
         requires absent { state_at self.old key.now ≡ None }
         requires reachable { Reachable index.now.normal key.now }
         requires justified { Justified index.now.normal key.now fact }
-        ensures ok { IfOk result (λ notes. Tells index.now.normal self.old key.now fact self.new notes.items) }
+        ensures ok { IfOk result (λ notes.
+            Tells index.now.normal self.old key.now fact self.new notes.items) }
         ensures err { OnErr result (self.new ≡ self.old) }
     {
         // both copies come first, so that nothing but them is lost where there is no memory for one
@@ -157,7 +162,8 @@ fn take(
     requires fresh { has_fact context.old fact ≡ false }
     ensures next { IsNext index.now.normal (Some context.old) context.old.key context.new }
     ensures sum { sum.new ≡ min (sum.old + (count context.new - count context.old)) last }
-    ensures ok { IfOk result (λ notes. Takes index.now.normal (Some context.old) fact context.new notes.items) }
+    ensures ok { IfOk result (λ notes.
+        Takes index.now.normal (Some context.old) fact context.new notes.items) }
 {
     let before = context.facts();
     let mut notes = Vec::new(alloc);

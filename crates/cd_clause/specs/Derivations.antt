@@ -20,7 +20,9 @@ Listed e k c = OneOf (record { key = k; clause = c }) e
 -- a list in which each clause is the conclusion of a rule from the entries after it, so the newest stands first
 abbrev pub Derivation : Normal → List Entry → Type 0
 Derivation n [] = Unit {0}
-Derivation n (p ∷ e) = Concludes n p.key (Listed e p.key) (λ r k a. (c : List Elem) × Listed e k c × Eligible n (Plain a) c) (λ r k. Listed e k []) p.clause × Derivation n e
+Derivation n (p ∷ e) = Concludes n p.key (Listed e p.key)
+    (λ r k a. (c : List Elem) × Listed e k c × Eligible n (Plain a) c)
+    (λ r k. Listed e k []) p.clause × Derivation n e
 
 -- a derivation has the clause in the context of the key
 pub record Derived (n : Normal) (key : List ℕ) (clause : List Elem) : Type 0 where
@@ -31,7 +33,8 @@ pub record Derived (n : Normal) (key : List ℕ) (clause : List Elem) : Type 0 w
 -- the key is that of a named atom, or stands in an eligible existential of a clause derived for a key that can be reached
 pub data Reachable (n : Normal) : List ℕ → Type 0 where
   from_named : {k : List ℕ} (a : ℕ) → is_named n a ≡ true → k ≡ plain a ∷ [] → Reachable n k
-  from_exist : {k : List ℕ} (h : List ℕ) (c : List Elem) (r : ℕ) → Reachable n h → Derived n h c → Eligible n (Exist r k) c → Reachable n k
+  from_exist : {k : List ℕ} (h : List ℕ) (c : List Elem) (r : ℕ) → Reachable n h → Derived n h c
+      → Eligible n (Exist r k) c → Reachable n k
 
 -- some clause derived in the context of the key has the element, eligible
 abbrev pub HasDerived : Normal → List ℕ → Elem → Type 0

@@ -16,7 +16,8 @@ use cd_base::Normal;
 /// Linear in the clause and the literals of its keys.
 pub fn eligible(clause: &Clause, i: usize, normal: &Normal) -> bool
     requires { i < length clause.now }
-    ensures { (result ≡ true) ↔ Eligible normal.now (slice_index_or clause.now i (Plain 0)) clause.now }
+    ensures { (result ≡ true) ↔ Eligible normal.now
+        (slice_index_or clause.now i (Plain 0)) clause.now }
 {
     let elems = clause.elems();
     let chosen = &elems[i];

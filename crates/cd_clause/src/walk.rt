@@ -86,7 +86,8 @@ fn with_above(
     elem: Elem,
     rest: &[Elem],
 ) -> Result<SmallVec<Elem, 1>, Memory>
-    ensures { IfOk result (λ elems. elems.items ≡ below.items ++ elem ∷ after is_before elem rest.now) }
+    ensures { IfOk result (λ elems. elems.items
+        ≡ below.items ++ elem ∷ after is_before elem rest.now) }
 {
     // What is above is found first, since the push takes the element.
     let above = after(&elem, rest);

@@ -17,7 +17,8 @@ pub record Keeps (n : Normal) (old : State) (fact : Fact) (new : State) : Type 0
   pub only : GainsOnly old fact new
 
 -- a fact that it didn't have was taken
-pub record Absorbs (n : Normal) (old : State) (fact : Fact) (new : State) (out new_out : List Note) : Type 0 where
+pub record Absorbs (n : Normal) (old : State) (fact : Fact) (new : State)
+    (out new_out : List Note) : Type 0 where
   pub closed : ClosedLocally n new
   pub had : has_fact new fact ≡ true
   pub risen : (count old < count new) ⊎ (count new ≡ last)

@@ -22,23 +22,30 @@ IsHad clauses e = (m : ℕ) × HasElem clauses e m
 
 -- By Con with this left side, of which each atom but one occurrence of `a` stands in some clause: the clause has one of these.
 abbrev pub IsBesideLeft : List (List Elem) → ℕ → List ℕ → ℕ → Type 0
-IsBesideLeft clauses a left m = (taken : List ℕ) × IsWithoutOne a left taken × ((b : ℕ) → OneOf b taken → IsHad clauses (Plain b)) × ((b : ℕ) × OneOf b taken × HasElem clauses (Plain b) m)
+IsBesideLeft clauses a left m =
+    (taken : List ℕ) × IsWithoutOne a left taken
+    × ((b : ℕ) → OneOf b taken → IsHad clauses (Plain b))
+    × ((b : ℕ) × OneOf b taken × HasElem clauses (Plain b) m)
 
 -- by Con with one of these axioms
 abbrev pub IsBesideByOne : Normal → List (List Elem) → ℕ → List ℕ → ℕ → Type 0
-IsBesideByOne n clauses a numbers m = (k : ℕ) × OneOf k numbers × IsBesideLeft clauses a (left_of n.n1 k) m
+IsBesideByOne n clauses a numbers m =
+    (k : ℕ) × OneOf k numbers × IsBesideLeft clauses a (left_of n.n1 k) m
 
 -- by Con with any axiom
 abbrev pub IsBesideByCon : Normal → List (List Elem) → ℕ → ℕ → Type 0
-IsBesideByCon n clauses a m = (k : ℕ) × (k < length n.n1) × IsBesideLeft clauses a (left_of n.n1 k) m
+IsBesideByCon n clauses a m =
+    (k : ℕ) × (k < length n.n1) × IsBesideLeft clauses a (left_of n.n1 k) m
 
 -- by Con with one of the axioms that are filed under an atom
 abbrev pub IsBesideByFiled : Normal → List (List ℕ) → List (List Elem) → ℕ → ℕ → ℕ → Type 0
-IsBesideByFiled n filed clauses a at m = (at < n.atoms) × IsBesideByOne n clauses a (filed_at filed n.atoms at) m
+IsBesideByFiled n filed clauses a at m =
+    (at < n.atoms) × IsBesideByOne n clauses a (filed_at filed n.atoms at) m
 
 -- by All, where the premise has an atom with an axiom: the clause has an existential
 abbrev pub IsBesideUniversal : Normal → List (List Elem) → ℕ → ℕ → Type 0
-IsBesideUniversal n clauses a m = ((t : Triple) × OneOf t n.n4 × (t.atom ≡ a)) × HasExistential clauses m
+IsBesideUniversal n clauses a m =
+    ((t : Triple) × OneOf t n.n4 × (t.atom ≡ a)) × HasExistential clauses m
 
 -- by All, where the premise has an existential: the clause has an atom with an axiom
 abbrev pub IsBesideExist : Normal → List (List Elem) → ℕ → Type 0
@@ -46,7 +53,8 @@ IsBesideExist n clauses m = (t : Triple) × OneOf t n.n4 × HasElem clauses (Pla
 
 -- by All, where this atom has an axiom
 abbrev pub IsBesideByUniversal : Normal → List (List Elem) → ℕ → ℕ → Type 0
-IsBesideByUniversal n clauses a m = ((t : Triple) × OneOf t n.n4 × (t.atom ≡ a)) × HasElem clauses (Plain a) m
+IsBesideByUniversal n clauses a m =
+    ((t : Triple) × OneOf t n.n4 × (t.atom ≡ a)) × HasElem clauses (Plain a) m
 
 -- each atom of the stored clauses has its number among these
 abbrev pub HasAllAtoms : List (List Elem) → List ℕ → Type 0
@@ -59,19 +67,24 @@ IsBeside n clauses (Exist r k) m = IsBesideExist n clauses m
 
 -- the element at place i of the premise is eligible, and the clause can be of use beside it
 abbrev pub IsBesideAt : Normal → List (List Elem) → List Elem → ℕ → ℕ → Type 0
-IsBesideAt n clauses c i m = Eligible n (slice_index_or c i (Plain 0)) c × IsBeside n clauses (slice_index_or c i (Plain 0)) m
+IsBesideAt n clauses c i m = Eligible n (slice_index_or c i (Plain 0)) c
+    × IsBeside n clauses (slice_index_or c i (Plain 0)) m
 
 -- live numbers that don't wait
 abbrev pub AreTakenUp : List ℕ → List ℕ → List ℕ → Type 0
 AreTakenUp live waiting taken = Within taken live × ((k : ℕ) → OneOf k taken → OneOf k waiting → ⊥)
 
 -- each conclusion from the premise and clauses that were taken up is redundant among these
-abbrev pub HasConcluded : Normal → List ℕ → Told → List (List Elem) → List ℕ → List ℕ → ℕ → List (List Elem) → Type 0
+abbrev pub HasConcluded : Normal → List ℕ → Told → List (List Elem) → List ℕ → List ℕ → ℕ
+    → List (List Elem) → Type 0
 HasConcluded n key told clauses live waiting premise out =
-    (taken : List ℕ) → AreTakenUp live waiting taken → (d : List Elem) → FromClause n key clauses taken premise told.backs told.deads d → Redundant out d
+    (taken : List ℕ) → AreTakenUp live waiting taken → (d : List Elem)
+        → FromClause n key clauses taken premise told.backs told.deads d → Redundant out d
 
 -- what can be concluded with the premise and clauses that were taken up can be concluded with it and these clauses
 abbrev pub AreEnough : Normal → List (List Elem) → List ℕ → List ℕ → ℕ → List ℕ → Type 0
 AreEnough n clauses live waiting premise numbers =
-    (taken : List ℕ) → AreTakenUp live waiting taken → (key : List ℕ) (backs : List BackFact) (deads : List DeadFact) (d : List Elem)
-    → FromClause n key clauses taken premise backs deads d → FromClause n key clauses numbers premise backs deads d
+    (taken : List ℕ) → AreTakenUp live waiting taken
+        → (key : List ℕ) (backs : List BackFact) (deads : List DeadFact) (d : List Elem)
+    → FromClause n key clauses taken premise backs deads d
+    → FromClause n key clauses numbers premise backs deads d

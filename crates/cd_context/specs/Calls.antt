@@ -23,7 +23,8 @@ GainsOnly old fact new = (f : Fact) → has_fact new f ≡ true → (has_fact ol
 
 -- `new_out` is `out` followed by notes that the new state owes, and where the work was done, by each that became owed
 abbrev pub Sends : Normal → Type 0 → (Note → Type 0) → State → List Note → List Note → Type 0
-Sends n Done WasOwed state out new_out = Appends (λ note added. WasOwed note ⊎ OneOf note added) (Owes n state) Done out new_out
+Sends n Done WasOwed state out new_out =
+    Appends (λ note added. WasOwed note ⊎ OneOf note added) (Owes n state) Done out new_out
 
 -- `new_out` is `out` followed by notes that the state owes, each once, and where the work was done, by all of them
 abbrev pub ListsOwed : Normal → Type 0 → State → List Note → List Note → Type 0

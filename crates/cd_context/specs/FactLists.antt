@@ -18,7 +18,8 @@ pub record ByKind : Type 0 where
 
 -- a state with these facts, and no clause
 abbrev pub told : ByKind → State
-told lists = record { key = []; clauses = []; live = []; links = lists.links; backs = lists.backs; deads = lists.deads }
+told lists = record { key = []; clauses = []; live = []; links = lists.links; backs = lists.backs;
+    deads = lists.deads }
 
 -- whether they are the same fact
 abbrev pub same_fact : Fact → Fact → Bool
@@ -31,5 +32,6 @@ is_among all fact = list_any (same_fact fact) all
 -- the set has a fact other than `Start` exactly where it is in the list of its kind
 pub record Ties (all : List Fact) (lists : ByKind) : Type 0 where
   pub of_link : (k : List ℕ) (r : ℕ) → is_among all (Link k r) ≡ has_fact (told lists) (Link k r)
-  pub of_back : (r : ℕ) (k : List ℕ) (a : ℕ) → is_among all (Back r k a) ≡ has_fact (told lists) (Back r k a)
+  pub of_back : (r : ℕ) (k : List ℕ) (a : ℕ)
+      → is_among all (Back r k a) ≡ has_fact (told lists) (Back r k a)
   pub of_dead : (r : ℕ) (k : List ℕ) → is_among all (Dead r k) ≡ has_fact (told lists) (Dead r k)

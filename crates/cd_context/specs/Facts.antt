@@ -18,7 +18,8 @@ same_key = pointwise nat_eq
 abbrev pub has_fact : State → Fact → Bool
 has_fact s Start = true
 has_fact s (Link k r) = list_any (λ (f : LinkFact). same_key k f.key && r == f.role) s.links
-has_fact s (Back r k a) = list_any (λ (f : BackFact). r == f.role && (same_key k f.key && a == f.atom)) s.backs
+has_fact s (Back r k a) = list_any (λ (f : BackFact). r == f.role
+    && (same_key k f.key && a == f.atom)) s.backs
 has_fact s (Dead r k) = list_any (λ (f : DeadFact). r == f.role && same_key k f.key) s.deads
 
 -- the stored clauses, live or dead, with the links, backs and deads; a count that would pass the last u64 stands at it

@@ -20,13 +20,16 @@ use Rattle.cd_context.specs.State.{State, live_of}
 abbrev pub Justified : Normal → List ℕ → Fact → Type 0
 Justified n key Start = (a : ℕ) × (is_named n a ≡ true) × (key ≡ plain a ∷ [])
 Justified n key (Link h r) = Reachable n h × HasDerived n h (Exist r key)
-Justified n key (Back r k a) = Reachable n key × HasDerived n key (Exist r k) × HasDerived n k (Plain a)
+Justified n key (Back r k a) =
+    Reachable n key × HasDerived n key (Exist r k) × HasDerived n k (Plain a)
 Justified n key (Dead r k) = Reachable n key × HasDerived n key (Exist r k) × Derived n k []
 
 -- each clause is the conclusion of a rule from those after it and from these facts; the newest stands first
-abbrev pub StoredInTurn : Normal → List ℕ → List BackFact → List DeadFact → List (List Elem) → Type 0
+abbrev pub StoredInTurn : Normal → List ℕ → List BackFact → List DeadFact → List (List Elem)
+    → Type 0
 StoredInTurn n key backs deads [] = Unit {0}
-StoredInTurn n key backs deads (c ∷ cs) = ConcludesFrom n key (λ d. OneOf d cs) backs deads c × StoredInTurn n key backs deads cs
+StoredInTurn n key backs deads (c ∷ cs) =
+    ConcludesFrom n key (λ d. OneOf d cs) backs deads c × StoredInTurn n key backs deads cs
 
 -- each clause is the conclusion of a rule from clauses stored before it and from these facts
 abbrev pub IsInTurn : Normal → List ℕ → List BackFact → List DeadFact → List (List Elem) → Type 0
@@ -36,9 +39,12 @@ IsInTurn n key backs deads clauses = StoredInTurn n key backs deads (reverse cla
 -- each clause is concluded from what was there before it, and none contains one stored before it
 pub record IsContext (n : Normal) (s : State) : Type 0 where
   pub reachable : Reachable n s.key
-  pub links : (h : List ℕ) (r : ℕ) → OneOf (record { key = h; role = r }) s.links → Justified n s.key (Link h r)
-  pub backs : (r : ℕ) (k : List ℕ) (a : ℕ) → OneOf (record { role = r; key = k; atom = a }) s.backs → Justified n s.key (Back r k a)
-  pub deads : (r : ℕ) (k : List ℕ) → OneOf (record { role = r; key = k }) s.deads → Justified n s.key (Dead r k)
+  pub links : (h : List ℕ) (r : ℕ) → OneOf (record { key = h; role = r }) s.links
+      → Justified n s.key (Link h r)
+  pub backs : (r : ℕ) (k : List ℕ) (a : ℕ) → OneOf (record { role = r; key = k; atom = a }) s.backs
+      → Justified n s.key (Back r k a)
+  pub deads : (r : ℕ) (k : List ℕ) → OneOf (record { role = r; key = k }) s.deads
+      → Justified n s.key (Dead r k)
   pub links_once : HasNoRepeats s.links
   pub backs_once : HasNoRepeats s.backs
   pub deads_once : HasNoRepeats s.deads
@@ -47,12 +53,15 @@ pub record IsContext (n : Normal) (s : State) : Type 0 where
 
 -- each conclusion from its live clauses and its facts is redundant there
 abbrev pub ClosedLocally : Normal → State → Type 0
-ClosedLocally n s = (d : List Elem) → ConcludesFrom n s.key (λ c. OneOf c (live_of s)) s.backs s.deads d → Redundant (live_of s) d
+ClosedLocally n s = (d : List Elem)
+    → ConcludesFrom n s.key (λ c. OneOf c (live_of s)) s.backs s.deads d → Redundant (live_of s) d
 
 -- what a context stores is derived
 abbrev pub StoredDerived : Type 0
-StoredDerived = (n : Normal) (s : State) → IsContext n s → (c : List Elem) → OneOf c s.clauses → Derived n s.key c
+StoredDerived = (n : Normal) (s : State) → IsContext n s → (c : List Elem) → OneOf c s.clauses
+    → Derived n s.key c
 
 -- what a context owes goes to a key that can be reached, and is justified there
 abbrev pub OwedJustified : Type 0
-OwedJustified = (n : Normal) (s : State) → IsContext n s → (note : Note) → Owes n s note → Reachable n note.key × Justified n note.key note.fact
+OwedJustified = (n : Normal) (s : State) → IsContext n s → (note : Note) → Owes n s note
+    → Reachable n note.key × Justified n note.key note.fact

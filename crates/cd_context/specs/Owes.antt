@@ -18,7 +18,10 @@ IsLinked s h r = OneOf (record { key = h; role = r }) s.links
 -- A context owes a link to the key of each existential that is eligible in a live clause. To each context that has an existential to it
 -- it owes a back for each atom that is eligible in a live clause and of use there by some axiom, and a dead where it has the empty clause.
 pub data Owes (n : Normal) (s : State) (note : Note) : Type 0 where
-  owes_link : (r : ℕ) (k : List ℕ) (c : List Elem) → OneOf c (live_of s) → Eligible n (Exist r k) c → note ≡ record { key = k; fact = Link s.key r } → Owes n s note
-  owes_back : (h : List ℕ) (r : ℕ) (c : List Elem) (t : Triple) → IsLinked s h r → OneOf c (live_of s) → Eligible n (Plain t.atom) c → OneOf t n.n3 → Under n.n5 r t.role
+  owes_link : (r : ℕ) (k : List ℕ) (c : List Elem) → OneOf c (live_of s) → Eligible n (Exist r k) c
+      → note ≡ record { key = k; fact = Link s.key r } → Owes n s note
+  owes_back : (h : List ℕ) (r : ℕ) (c : List Elem) (t : Triple) → IsLinked s h r
+      → OneOf c (live_of s) → Eligible n (Plain t.atom) c → OneOf t n.n3 → Under n.n5 r t.role
       → note ≡ record { key = h; fact = Back r s.key t.atom } → Owes n s note
-  owes_dead : (h : List ℕ) (r : ℕ) → IsLinked s h r → OneOf [] (live_of s) → note ≡ record { key = h; fact = Dead r s.key } → Owes n s note
+  owes_dead : (h : List ℕ) (r : ℕ) → IsLinked s h r → OneOf [] (live_of s)
+      → note ≡ record { key = h; fact = Dead r s.key } → Owes n s note

@@ -41,12 +41,14 @@ IsUsefulBack n own a f note = IsOfUse n a f.role × IsBackNote own a f note
 
 -- the link for the existential at this place, where it is eligible
 abbrev pub IsLinkAt : Normal → List ℕ → List Elem → ℕ → Note → Type 0
-IsLinkAt n own c i note = (r : ℕ) × (k : List ℕ) × (slice_index_or c i (Plain 0) ≡ Exist r k) × Eligible n (Exist r k) c × IsLinkNote own r k note
+IsLinkAt n own c i note = (r : ℕ) × (k : List ℕ) × (slice_index_or c i (Plain 0) ≡ Exist r k)
+    × Eligible n (Exist r k) c × IsLinkNote own r k note
 
 -- the back for the atom at this place, where it is eligible, to one of these links
 abbrev pub IsBackAt : Normal → List ℕ → List LinkFact → List Elem → ℕ → Note → Type 0
 IsBackAt n own links c i note =
-    (a : ℕ) × (slice_index_or c i (Plain 0) ≡ Plain a) × Eligible n (Plain a) c × ((f : LinkFact) × OneOf f links × IsUsefulBack n own a f note)
+    (a : ℕ) × (slice_index_or c i (Plain 0) ≡ Plain a) × Eligible n (Plain a) c
+        × ((f : LinkFact) × OneOf f links × IsUsefulBack n own a f note)
 
 -- the link for an eligible existential of the clause
 abbrev pub IsLinkOf : Normal → List ℕ → List Elem → Note → Type 0
@@ -54,7 +56,8 @@ IsLinkOf n own c note = (r : ℕ) × (k : List ℕ) × Eligible n (Exist r k) c 
 
 -- the back for an eligible atom of the clause, or the dead for an empty one, to this link
 abbrev pub IsToldTo : Normal → List ℕ → List Elem → LinkFact → Note → Type 0
-IsToldTo n own c f note = ((c ≡ []) × IsDeadNote own f note) ⊎ ((a : ℕ) × Eligible n (Plain a) c × IsUsefulBack n own a f note)
+IsToldTo n own c f note = ((c ≡ []) × IsDeadNote own f note)
+    ⊎ ((a : ℕ) × Eligible n (Plain a) c × IsUsefulBack n own a f note)
 
 -- the same to one of these links
 abbrev pub IsToldBy : Normal → List ℕ → List LinkFact → List Elem → Note → Type 0

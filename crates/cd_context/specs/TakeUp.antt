@@ -17,12 +17,15 @@ pub record Told : Type 0 where
 
 -- a live clause that doesn't wait any more
 abbrev pub IsTakenUp : List (List Elem) → List ℕ → List ℕ → List Elem → Type 0
-IsTakenUp clauses live waiting c = (k : ℕ) × OneOf k live × (OneOf k waiting → ⊥) × (c ≡ slice_index_or clauses k [])
+IsTakenUp clauses live waiting c =
+    (k : ℕ) × OneOf k live × (OneOf k waiting → ⊥) × (c ≡ slice_index_or clauses k [])
 
 -- each conclusion from clauses that were taken up is redundant, or is to be added yet
-abbrev pub ClosedUpTo : Normal → List ℕ → Told → List (List Elem) → List ℕ → List ℕ → List (List Elem) → Type 0
+abbrev pub ClosedUpTo : Normal → List ℕ → Told → List (List Elem) → List ℕ → List ℕ
+    → List (List Elem) → Type 0
 ClosedUpTo n key told clauses live waiting out =
-    (d : List Elem) → ConcludesFrom n key (IsTakenUp clauses live waiting) told.backs told.deads d → Redundant (picked clauses live) d ⊎ Redundant out d
+    (d : List Elem) → ConcludesFrom n key (IsTakenUp clauses live waiting) told.backs told.deads d
+        → Redundant (picked clauses live) d ⊎ Redundant out d
 
 -- one of the numbers that wait is no longer there
 pub record IsTakenFrom (n : ℕ) (old new : List ℕ) : Type 0 where
@@ -37,18 +40,21 @@ pub record IsPutInto (n : ℕ) (old new : List ℕ) : Type 0 where
   pub count : length new ≡ length old + 1
 
 -- clauses are stored in turn, and those that wait are stored
-pub record IsWorking (n : Normal) (key : List ℕ) (told : Told) (clauses : List (List Elem)) (waiting : List ℕ) : Type 0 where
+pub record IsWorking (n : Normal) (key : List ℕ) (told : Told) (clauses : List (List Elem))
+    (waiting : List ℕ) : Type 0 where
   pub in_turn : IsInTurn n key told.backs told.deads clauses
   pub in_range : (m : ℕ) → OneOf m waiting → m < length clauses
   pub fewer : length waiting ≤ length clauses
 
 -- no fewer clauses were taken up than before
 abbrev pub TakesUpMore : List (List Elem) → List ℕ → List (List Elem) → List ℕ → Type 0
-TakesUpMore clauses waiting clauses_new waiting_new = length clauses - length waiting ≤ length clauses_new - length waiting_new
+TakesUpMore clauses waiting clauses_new waiting_new =
+    length clauses - length waiting ≤ length clauses_new - length waiting_new
 
 -- each live number that doesn't wait was live before, and didn't wait
 abbrev pub Stays : List ℕ → List ℕ → List ℕ → List ℕ → Type 0
-Stays live waiting live_new waiting_new = (k : ℕ) → OneOf k live_new → (OneOf k waiting_new → ⊥) → OneOf k live × (OneOf k waiting → ⊥)
+Stays live waiting live_new waiting_new = (k : ℕ) → OneOf k live_new → (OneOf k waiting_new → ⊥)
+    → OneOf k live × (OneOf k waiting → ⊥)
 
 -- the clauses are those of before, with more of them or not
 abbrev pub Follows : List (List Elem) → List (List Elem) → Type 0

@@ -40,7 +40,9 @@ pub(crate) fn beside(
 ) -> Result<Vec<usize>, Memory>
     requires { premise < length store.now.0 }
     ensures live { IfOk result (λ others. (k : ℕ) → OneOf k others.items → OneOf k store.now.1) }
-    ensures enough { IfOk result (λ others. AreEnough index.now.normal store.now.0 store.now.1 (numbers waiting.now) premise others.items) }
+    ensures enough { IfOk result
+        (λ others. AreEnough index.now.normal store.now.0 store.now.1
+        (numbers waiting.now) premise others.items) }
 {
     let mut found = Vec::new(alloc);
     push_beside(alloc, index, store, &store.clauses()[premise], &mut found)?;
@@ -68,7 +70,8 @@ fn taken_up(
     premise: usize,
 ) -> Result<Vec<usize>, Memory>
     ensures live { IfOk result (λ others. (k : ℕ) → OneOf k others.items → OneOf k store.now.1) }
-    ensures every { IfOk result (λ others. (k : ℕ) → OneOf k candidates.now → OneOf k store.now.1 → (OneOf k (numbers waiting.now) → ⊥) → (k ≡ premise → ⊥) → OneOf k others.items) }
+    ensures every { IfOk result (λ others. (k : ℕ) → OneOf k candidates.now → OneOf k store.now.1
+        → (OneOf k (numbers waiting.now) → ⊥) → (k ≡ premise → ⊥) → OneOf k others.items) }
 {
     let mut others = Vec::new(alloc);
     'candidates: for i in 0..candidates.len() {
@@ -84,7 +87,8 @@ fn taken_up(
 /// clauses.
 fn is_taken_up(store: &Store, waiting: &Waiting, premise: usize, number: usize) -> bool
     ensures live { result ≡ true → OneOf number store.now.1 }
-    ensures every { OneOf number store.now.1 → (OneOf number (numbers waiting.now) → ⊥) → (number ≡ premise → ⊥) → result ≡ true }
+    ensures every { OneOf number store.now.1 → (OneOf number (numbers waiting.now) → ⊥)
+        → (number ≡ premise → ⊥) → result ≡ true }
 {
     if number == premise {
         return false;
@@ -104,7 +108,8 @@ fn push_beside(
     found: &mut Vec<usize>,
 ) -> Result<(), Memory>
     requires { (e : Elem) → OneOf e clause.now → IsHad store.now.0 e }
-    ensures { OnOk result (Gains (λ m. (e : Elem) × Eligible index.now.normal e clause.now × IsBeside index.now.normal store.now.0 e m) found.old.items found.new.items) }
+    ensures { OnOk result (Gains (λ m. (e : Elem) × Eligible index.now.normal e clause.now
+        × IsBeside index.now.normal store.now.0 e m) found.old.items found.new.items) }
 {
     let count = clause.elems().len();
     'places: for i in 0..count {
@@ -125,7 +130,8 @@ fn push_beside_at(
 ) -> Result<(), Memory>
     requires place { i < length clause.now }
     requires had { (e : Elem) → OneOf e clause.now → IsHad store.now.0 e }
-    ensures { OnOk result (Gains (IsBesideAt index.now.normal store.now.0 clause.now i) found.old.items found.new.items) }
+    ensures { OnOk result (Gains (IsBesideAt index.now.normal store.now.0 clause.now i)
+        found.old.items found.new.items) }
 {
     if eligible(clause, i, index.normal()) {
         push_beside_elem(alloc, index, store, &clause.elems()[i], found)?;
@@ -142,7 +148,8 @@ fn push_beside_elem(
     found: &mut Vec<usize>,
 ) -> Result<(), Memory>
     requires { IsHad store.now.0 elem.now }
-    ensures { OnOk result (Gains (IsBeside index.now.normal store.now.0 elem.now) found.old.items found.new.items) }
+    ensures { OnOk result (Gains (IsBeside index.now.normal store.now.0 elem.now) found.old.items
+        found.new.items) }
 {
     match elem {
         Elem::Plain(atom) => {
@@ -164,7 +171,8 @@ fn push_universal(
     atom: Atom,
     found: &mut Vec<usize>,
 ) -> Result<(), Memory>
-    ensures { OnOk result (Gains (IsBesideUniversal index.now.normal store.now.0 atom) found.old.items found.new.items) }
+    ensures { OnOk result (Gains (IsBesideUniversal index.now.normal store.now.0 atom)
+        found.old.items found.new.items) }
 {
     if has_universal(index, atom) {
         store.push_with_existentials(found)?;
@@ -188,7 +196,8 @@ fn numbers_in_place_of(
 
 /// The atom of this number, if it is in range. Constant time.
 fn atom_of(index: &Index, number: u64) -> Option<Atom>
-    ensures { MatchOption result (number < index.now.normal.atoms → ⊥) (λ atom. (atom ≡ number) × (number < index.now.normal.atoms)) }
+    ensures { MatchOption result (number < index.now.normal.atoms → ⊥)
+        (λ atom. (atom ≡ number) × (number < index.now.normal.atoms)) }
 {
     if number < index.normal().atoms as u64 {
         Some(Atom(number as u32))
@@ -204,7 +213,8 @@ fn push_exist(
     store: &Store,
     found: &mut Vec<usize>,
 ) -> Result<(), Memory>
-    ensures { OnOk result (Gains (IsBesideExist index.now.normal store.now.0) found.old.items found.new.items) }
+    ensures { OnOk result (Gains (IsBesideExist index.now.normal store.now.0) found.old.items
+        found.new.items) }
 {
     let universals = index.normal().n4.items().len();
     match numbers_in_place_of(alloc, store, universals)? {
@@ -220,7 +230,8 @@ fn push_exist(
 
 /// The same by a walk over the universals.
 fn push_by_universals(index: &Index, store: &Store, found: &mut Vec<usize>) -> Result<(), Memory>
-    ensures { OnOk result (Gains (IsBesideExist index.now.normal store.now.0) found.old.items found.new.items) }
+    ensures { OnOk result (Gains (IsBesideExist index.now.normal store.now.0) found.old.items
+        found.new.items) }
 {
     let universals = index.normal().n4.items();
     'universals: for i in 0..universals.len() {
@@ -238,7 +249,8 @@ fn push_by_atoms(
     found: &mut Vec<usize>,
 ) -> Result<(), Memory>
     requires { HasAllAtoms store.now.0 atoms.now }
-    ensures { OnOk result (Gains (IsBesideExist index.now.normal store.now.0) found.old.items found.new.items) }
+    ensures { OnOk result (Gains (IsBesideExist index.now.normal store.now.0) found.old.items
+        found.new.items) }
 {
     'atoms: for i in 0..atoms.len() {
         push_if_universal(index, store, atoms[i], found)?;
@@ -253,7 +265,8 @@ fn push_if_universal(
     number: u64,
     found: &mut Vec<usize>,
 ) -> Result<(), Memory>
-    ensures { OnOk result (Gains (IsBesideByUniversal index.now.normal store.now.0 number) found.old.items found.new.items) }
+    ensures { OnOk result (Gains (IsBesideByUniversal index.now.normal store.now.0 number)
+        found.old.items found.new.items) }
 {
     let Some(atom) = atom_of(index, number) else {
         return Ok(());
@@ -283,7 +296,8 @@ fn push_by_con(
     found: &mut Vec<usize>,
 ) -> Result<(), Memory>
     requires { IsHad store.now.0 (Plain atom) }
-    ensures { OnOk result (Gains (IsBesideByCon index.now.normal store.now.0 atom) found.old.items found.new.items) }
+    ensures { OnOk result (Gains (IsBesideByCon index.now.normal store.now.0 atom) found.old.items
+        found.new.items) }
 {
     let all = with_left(index, atom);
     let own = filed(index, atom);
@@ -306,9 +320,11 @@ fn push_by_fewer(
 ) -> Result<(), Memory>
     requires numbers { AreNumbers index.now.normal.n1 all.now }
     requires every { HasAllWith index.now.normal.n1 atom all.now }
-    requires filing { atom < index.now.normal.atoms → IsFiling index.now.normal.n1 index.now.normal.atoms index.now.filed }
+    requires filing { atom < index.now.normal.atoms
+        → IsFiling index.now.normal.n1 index.now.normal.atoms index.now.filed }
     requires had { IsHad store.now.0 (Plain atom) }
-    ensures { OnOk result (Gains (IsBesideByCon index.now.normal store.now.0 atom) found.old.items found.new.items) }
+    ensures { OnOk result (Gains (IsBesideByCon index.now.normal store.now.0 atom) found.old.items
+        found.new.items) }
 {
     if let Some(atoms) = numbers_in_place_of(alloc, store, all.len())? {
         if are_fewer(index, atoms.as_slice(), all.len()) {
@@ -351,9 +367,11 @@ fn push_by_filed(
     found: &mut Vec<usize>,
 ) -> Result<(), Memory>
     requires all { HasAllAtoms store.now.0 atoms.now }
-    requires filing { atom < index.now.normal.atoms → IsFiling index.now.normal.n1 index.now.normal.atoms index.now.filed }
+    requires filing { atom < index.now.normal.atoms
+        → IsFiling index.now.normal.n1 index.now.normal.atoms index.now.filed }
     requires had { IsHad store.now.0 (Plain atom) }
-    ensures { OnOk result (Gains (IsBesideByCon index.now.normal store.now.0 atom) found.old.items found.new.items) }
+    ensures { OnOk result (Gains (IsBesideByCon index.now.normal store.now.0 atom) found.old.items
+        found.new.items) }
 {
     'atoms: for i in 0..atoms.len() {
         push_by_number(index, store, atoms[i], atom, found)?;
@@ -370,7 +388,9 @@ fn push_by_number(
     found: &mut Vec<usize>,
 ) -> Result<(), Memory>
     requires { IsHad store.now.0 (Plain atom) }
-    ensures { OnOk result (Gains (IsBesideByFiled index.now.normal index.now.filed store.now.0 atom number) found.old.items found.new.items) }
+    ensures { OnOk result (Gains
+        (IsBesideByFiled index.now.normal index.now.filed store.now.0 atom number) found.old.items
+        found.new.items) }
 {
     let Some(at) = atom_of(index, number) else {
         return Ok(());
@@ -389,7 +409,8 @@ fn push_by_axioms(
 ) -> Result<(), Memory>
     requires numbers { AreNumbers index.now.normal.n1 axioms.now }
     requires had { IsHad store.now.0 (Plain atom) }
-    ensures { OnOk result (Gains (IsBesideByOne index.now.normal store.now.0 atom axioms.now) found.old.items found.new.items) }
+    ensures { OnOk result (Gains (IsBesideByOne index.now.normal store.now.0 atom axioms.now)
+        found.old.items found.new.items) }
 {
     let all = index.normal().n1.items();
     'axioms: for i in 0..axioms.len() {
@@ -408,7 +429,8 @@ fn push_by_left(
     found: &mut Vec<usize>,
 ) -> Result<(), Memory>
     requires { IsHad store.now.0 (Plain atom) }
-    ensures { OnOk result (Gains (IsBesideLeft store.now.0 atom left.now) found.old.items found.new.items) }
+    ensures { OnOk result (Gains (IsBesideLeft store.now.0 atom left.now) found.old.items
+        found.new.items) }
 {
     let Some(place) = place_of(left, atom) else {
         return Ok(());
@@ -422,7 +444,8 @@ fn push_by_left(
 
 /// The first place of the atom. Linear in the atoms.
 fn place_of(atoms: &[Atom], atom: Atom) -> Option<usize>
-    ensures { MatchOption result (OneOf atom atoms.now → ⊥) (λ i. (i < length atoms.now) × (slice_index_or atoms.now i 0 ≡ atom)) }
+    ensures { MatchOption result (OneOf atom atoms.now → ⊥)
+        (λ i. (i < length atoms.now) × (slice_index_or atoms.now i 0 ≡ atom)) }
 {
     'atoms: for i in 0..atoms.len() {
         let at = atoms[i];
@@ -452,7 +475,9 @@ fn push_others(
     place: usize,
     found: &mut Vec<usize>,
 ) -> Result<(), Memory>
-    ensures { OnOk result (Gains (λ m. (j : ℕ) × (j < length atoms.now) × (j ≡ place → ⊥) × HasElem store.now.0 (Plain (slice_index_or atoms.now j 0)) m) found.old.items found.new.items) }
+    ensures { OnOk result (Gains (λ m. (j : ℕ) × (j < length atoms.now) × (j ≡ place → ⊥)
+        × HasElem store.now.0 (Plain (slice_index_or atoms.now j 0)) m) found.old.items
+        found.new.items) }
 {
     'atoms: for i in 0..atoms.len() {
         if i != place {

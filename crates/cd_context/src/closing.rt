@@ -31,14 +31,20 @@ pub(crate) fn close_with(
     store: &mut Store,
     conclusions: Vec<Clause>,
 ) -> Result<(), Memory>
-    requires closed { ClosedUpTo index.now.normal key.now (record { backs = backs.now; deads = deads.now }) store.old.0 store.old.1 [] conclusions.items }
+    requires closed { ClosedUpTo index.now.normal key.now
+        (record { backs = backs.now; deads = deads.now }) store.old.0 store.old.1 []
+        conclusions.items }
     requires in_turn { IsInTurn index.now.normal key.now backs.now deads.now store.old.0 }
-    requires concluded { (d : List Elem) → OneOf d conclusions.items → ConcludesFrom index.now.normal key.now (λ c. OneOf c store.old.0) backs.now deads.now d }
-    ensures closed { OnOk result (ClosedUpTo index.now.normal key.now (record { backs = backs.now; deads = deads.now }) store.new.0 store.new.1 [] []) }
+    requires concluded { (d : List Elem) → OneOf d conclusions.items
+        → ConcludesFrom index.now.normal key.now (λ c. OneOf c store.old.0) backs.now deads.now d }
+    ensures closed { OnOk result
+        (ClosedUpTo index.now.normal key.now (record { backs = backs.now; deads = deads.now })
+        store.new.0 store.new.1 [] []) }
     ensures in_turn { IsInTurn index.now.normal key.now backs.now deads.now store.new.0 }
     ensures store { IsStore store.new.0 store.new.1 }
     ensures follows { Follows store.old.0 store.new.0 }
-    ensures survivors { (k : ℕ) → OneOf k store.new.1 → k < length store.old.0 → OneOf k store.old.1 }
+    ensures survivors { (k : ℕ) → OneOf k store.new.1 → k < length store.old.0
+        → OneOf k store.old.1 }
 {
     let done = add_and_close(alloc, index, key, backs, deads, store, conclusions);
     // what every store keeps is said where its live numbers are lent
@@ -56,13 +62,19 @@ fn add_and_close(
     store: &mut Store,
     conclusions: Vec<Clause>,
 ) -> Result<(), Memory>
-    requires closed { ClosedUpTo index.now.normal key.now (record { backs = backs.now; deads = deads.now }) store.old.0 store.old.1 [] conclusions.items }
+    requires closed { ClosedUpTo index.now.normal key.now
+        (record { backs = backs.now; deads = deads.now }) store.old.0 store.old.1 []
+        conclusions.items }
     requires in_turn { IsInTurn index.now.normal key.now backs.now deads.now store.old.0 }
-    requires concluded { (d : List Elem) → OneOf d conclusions.items → ConcludesFrom index.now.normal key.now (λ c. OneOf c store.old.0) backs.now deads.now d }
-    ensures closed { OnOk result (ClosedUpTo index.now.normal key.now (record { backs = backs.now; deads = deads.now }) store.new.0 store.new.1 [] []) }
+    requires concluded { (d : List Elem) → OneOf d conclusions.items
+        → ConcludesFrom index.now.normal key.now (λ c. OneOf c store.old.0) backs.now deads.now d }
+    ensures closed { OnOk result
+        (ClosedUpTo index.now.normal key.now (record { backs = backs.now; deads = deads.now })
+        store.new.0 store.new.1 [] []) }
     ensures in_turn { IsInTurn index.now.normal key.now backs.now deads.now store.new.0 }
     ensures follows { Follows store.old.0 store.new.0 }
-    ensures survivors { (k : ℕ) → OneOf k store.new.1 → k < length store.old.0 → OneOf k store.old.1 }
+    ensures survivors { (k : ℕ) → OneOf k store.new.1 → k < length store.old.0
+        → OneOf k store.old.1 }
 {
     // what every store keeps is said where its live numbers are lent
     let _live = store.live();
@@ -91,16 +103,27 @@ fn add_all(
     waiting: &mut Waiting,
     conclusions: Vec<Clause>,
 ) -> Result<(), Memory>
-    requires closed { ClosedUpTo index.now.normal key.now (record { backs = backs.now; deads = deads.now }) store.old.0 store.old.1 (numbers waiting.old) conclusions.items }
-    requires working { IsWorking index.now.normal key.now (record { backs = backs.now; deads = deads.now }) store.old.0 (numbers waiting.old) }
-    requires concluded { (d : List Elem) → OneOf d conclusions.items → ConcludesFrom index.now.normal key.now (λ c. OneOf c store.old.0) backs.now deads.now d }
-    ensures closed { OnOk result (ClosedUpTo index.now.normal key.now (record { backs = backs.now; deads = deads.now }) store.new.0 store.new.1 (numbers waiting.new) []) }
-    ensures working { OnOk result (IsWorking index.now.normal key.now (record { backs = backs.now; deads = deads.now }) store.new.0 (numbers waiting.new)) }
+    requires closed { ClosedUpTo index.now.normal key.now
+        (record { backs = backs.now; deads = deads.now }) store.old.0 store.old.1
+        (numbers waiting.old) conclusions.items }
+    requires working { IsWorking index.now.normal key.now
+        (record { backs = backs.now; deads = deads.now }) store.old.0 (numbers waiting.old) }
+    requires concluded { (d : List Elem) → OneOf d conclusions.items
+        → ConcludesFrom index.now.normal key.now (λ c. OneOf c store.old.0) backs.now deads.now d }
+    ensures closed { OnOk result
+        (ClosedUpTo index.now.normal key.now (record { backs = backs.now; deads = deads.now })
+        store.new.0 store.new.1 (numbers waiting.new) []) }
+    ensures working { OnOk result
+        (IsWorking index.now.normal key.now (record { backs = backs.now; deads = deads.now })
+        store.new.0 (numbers waiting.new)) }
     ensures in_turn { IsInTurn index.now.normal key.now backs.now deads.now store.new.0 }
     ensures follows { Follows store.old.0 store.new.0 }
-    ensures survivors { (k : ℕ) → OneOf k store.new.1 → k < length store.old.0 → OneOf k store.old.1 }
-    ensures stays { OnOk result (Stays store.old.1 (numbers waiting.old) store.new.1 (numbers waiting.new)) }
-    ensures takes_up { OnOk result (TakesUpMore store.old.0 (numbers waiting.old) store.new.0 (numbers waiting.new)) }
+    ensures survivors { (k : ℕ) → OneOf k store.new.1 → k < length store.old.0
+        → OneOf k store.old.1 }
+    ensures stays { OnOk result (Stays store.old.1 (numbers waiting.old) store.new.1
+        (numbers waiting.new)) }
+    ensures takes_up { OnOk result
+        (TakesUpMore store.old.0 (numbers waiting.old) store.new.0 (numbers waiting.new)) }
 {
     'conclusions: for conclusion in conclusions {
         let elements = conclusion.elems().len();
@@ -125,12 +148,18 @@ fn close(
     store: &mut Store,
     waiting: &mut Waiting,
 ) -> Result<(), Memory>
-    requires closed { ClosedUpTo index.now.normal key.now (record { backs = backs.now; deads = deads.now }) store.old.0 store.old.1 (numbers waiting.old) [] }
-    requires working { IsWorking index.now.normal key.now (record { backs = backs.now; deads = deads.now }) store.old.0 (numbers waiting.old) }
-    ensures closed { OnOk result (ClosedUpTo index.now.normal key.now (record { backs = backs.now; deads = deads.now }) store.new.0 store.new.1 [] []) }
+    requires closed { ClosedUpTo index.now.normal key.now
+        (record { backs = backs.now; deads = deads.now }) store.old.0 store.old.1
+        (numbers waiting.old) [] }
+    requires working { IsWorking index.now.normal key.now
+        (record { backs = backs.now; deads = deads.now }) store.old.0 (numbers waiting.old) }
+    ensures closed { OnOk result
+        (ClosedUpTo index.now.normal key.now (record { backs = backs.now; deads = deads.now })
+        store.new.0 store.new.1 [] []) }
     ensures in_turn { IsInTurn index.now.normal key.now backs.now deads.now store.new.0 }
     ensures follows { Follows store.old.0 store.new.0 }
-    ensures survivors { (k : ℕ) → OneOf k store.new.1 → k < length store.old.0 → OneOf k store.old.1 }
+    ensures survivors { (k : ℕ) → OneOf k store.new.1 → k < length store.old.0
+        → OneOf k store.old.1 }
 {
     'turns: while let Some(number) = waiting.take() {
         // the number of clauses fits, and so bounds the turns: each has one more taken up
@@ -158,8 +187,11 @@ fn conclude(
     number: usize,
 ) -> Result<Vec<Clause>, Memory>
     requires { OneOf number store.now.1 }
-    ensures only { IfOk result (λ conclusions. (d : List Elem) → OneOf d conclusions.items → ConcludesFrom index.now.normal key.now (λ c. OneOf c store.now.0) backs.now deads.now d) }
-    ensures every { IfOk result (λ conclusions. HasConcluded index.now.normal key.now (record { backs = backs.now; deads = deads.now }) store.now.0 store.now.1 (numbers waiting.now) number conclusions.items) }
+    ensures only { IfOk result (λ conclusions. (d : List Elem) → OneOf d conclusions.items
+        → ConcludesFrom index.now.normal key.now (λ c. OneOf c store.now.0) backs.now deads.now d) }
+    ensures every { IfOk result (λ conclusions.
+        HasConcluded index.now.normal key.now (record { backs = backs.now; deads = deads.now })
+        store.now.0 store.now.1 (numbers waiting.now) number conclusions.items) }
 {
     // what every store keeps is said where its live numbers are lent
     let _live = store.live();

@@ -40,7 +40,8 @@ impl Model for Context {
 
     ghost Value = { State };
 
-    ghost view = { λ c. record { key = c.key; clauses = c.store.0; live = c.store.1; links = c.facts.links; backs = c.facts.backs; deads = c.facts.deads } };
+    ghost view = { λ c. record { key = c.key; clauses = c.store.0; live = c.store.1;
+        links = c.facts.links; backs = c.facts.backs; deads = c.facts.deads } };
 }
 
 impl Context {
@@ -59,7 +60,8 @@ impl Context {
         ensures closed { IfOk result (λ c. ClosedLocally index.now.normal c) }
         ensures key { IfOk result (λ c. c.key ≡ key) }
         ensures facts { IfOk result (λ c. (c.links ≡ []) × (c.backs ≡ []) × (c.deads ≡ [])) }
-        ensures sends { IfOk result (λ c. Sends index.now.normal (Unit {0}) (λ note. ⊥) c out.old.items out.new.items) }
+        ensures sends { IfOk result
+            (λ c. Sends index.now.normal (Unit {0}) (λ note. ⊥) c out.old.items out.new.items) }
         ensures err { OnErr result (out.new.items ≡ out.old.items) }
     {
         let mut store = Store::new(alloc);
@@ -93,10 +95,14 @@ impl Context {
         ensures only { GainsOnly self.old fact self.new }
         ensures closed { OnOk result (ClosedLocally index.now.normal self.new) }
         ensures had { OnOk result (has_fact self.new fact ≡ true) }
-        ensures risen { OnOk result (has_fact self.old fact ≡ false → (count self.old < count self.new) ⊎ (count self.new ≡ last)) }
-        ensures sends { OnOk result (Sends index.now.normal (Unit {0}) (Owes index.now.normal self.old) self.new out.old.items out.new.items) }
+        ensures risen { OnOk result (has_fact self.old fact ≡ false
+            → (count self.old < count self.new) ⊎ (count self.new ≡ last)) }
+        ensures sends { OnOk result
+            (Sends index.now.normal (Unit {0}) (Owes index.now.normal self.old) self.new
+            out.old.items out.new.items) }
         ensures err { OnErr result (out.new.items ≡ out.old.items) }
-        ensures again { has_fact self.old fact ≡ true → (self.new ≡ self.old) × (out.new.items ≡ out.old.items) }
+        ensures again { has_fact self.old fact ≡ true
+            → (self.new ≡ self.old) × (out.new.items ≡ out.old.items) }
     {
         if self.has(&fact) {
             return Ok(());
@@ -125,7 +131,9 @@ impl Context {
         ensures closed { OnOk result (ClosedLocally index.now.normal self.new) }
         ensures had { OnOk result (has_fact self.new fact ≡ true) }
         ensures risen { OnOk result ((count self.old < count self.new) ⊎ (count self.new ≡ last)) }
-        ensures sends { OnOk result (Sends index.now.normal (Unit {0}) (Owes index.now.normal self.old) self.new out.old.items out.new.items) }
+        ensures sends { OnOk result
+            (Sends index.now.normal (Unit {0}) (Owes index.now.normal self.old) self.new
+            out.old.items out.new.items) }
         ensures err { OnErr result (out.new.items ≡ out.old.items) }
     {
         match fact {
@@ -154,7 +162,8 @@ impl Context {
         requires justified { Justified index.now.normal self.old.key (Link link.key link.role) }
         requires fresh { has_fact self.old (Link link.key link.role) ≡ false }
         ensures keeps { Keeps index.now.normal self.old (Link link.key link.role) self.new }
-        ensures ok { OnOk result (Absorbs index.now.normal self.old (Link link.key link.role) self.new out.old.items out.new.items) }
+        ensures ok { OnOk result (Absorbs index.now.normal self.old
+            (Link link.key link.role) self.new out.old.items out.new.items) }
         ensures err { OnErr result (out.new.items ≡ out.old.items) }
     {
         let mut notes = Vec::new(alloc);
@@ -177,10 +186,13 @@ impl Context {
     ) -> Result<(), Memory>
         requires context { IsContext index.now.normal self.old }
         requires closed { ClosedLocally index.now.normal self.old }
-        requires justified { Justified index.now.normal self.old.key (Back back.role back.key back.atom) }
+        requires justified { Justified index.now.normal self.old.key
+            (Back back.role back.key back.atom) }
         requires fresh { has_fact self.old (Back back.role back.key back.atom) ≡ false }
-        ensures keeps { Keeps index.now.normal self.old (Back back.role back.key back.atom) self.new }
-        ensures ok { OnOk result (Absorbs index.now.normal self.old (Back back.role back.key back.atom) self.new out.old.items out.new.items) }
+        ensures keeps { Keeps index.now.normal self.old
+            (Back back.role back.key back.atom) self.new }
+        ensures ok { OnOk result (Absorbs index.now.normal self.old
+            (Back back.role back.key back.atom) self.new out.old.items out.new.items) }
         ensures err { OnErr result (out.new.items ≡ out.old.items) }
     {
         let stored = self.store.clauses().len();
@@ -221,7 +233,8 @@ impl Context {
         requires justified { Justified index.now.normal self.old.key (Dead dead.role dead.key) }
         requires fresh { has_fact self.old (Dead dead.role dead.key) ≡ false }
         ensures keeps { Keeps index.now.normal self.old (Dead dead.role dead.key) self.new }
-        ensures ok { OnOk result (Absorbs index.now.normal self.old (Dead dead.role dead.key) self.new out.old.items out.new.items) }
+        ensures ok { OnOk result (Absorbs index.now.normal self.old
+            (Dead dead.role dead.key) self.new out.old.items out.new.items) }
         ensures err { OnErr result (out.new.items ≡ out.old.items) }
     {
         let stored = self.store.clauses().len();
@@ -287,7 +300,8 @@ impl Context {
 
     /// The atoms whose one-element clause is live, ascending, each once. Linear in the live clauses, and `n log n` in the atoms.
     pub fn singles(&self, alloc: Global) -> Result<Vec<Atom>, Memory>
-        ensures exact { IfOk result (λ atoms. (b : ℕ) → OneOf b atoms.items ↔ IsSingle (live_of self.now) b) }
+        ensures exact { IfOk result (λ atoms. (b : ℕ) → OneOf b atoms.items
+            ↔ IsSingle (live_of self.now) b) }
         ensures ascends { IfOk result (λ atoms. IsStrictlyIncreasing atoms.items) }
     {
         let clauses = self.store.clauses();

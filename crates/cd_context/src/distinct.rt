@@ -31,7 +31,8 @@ pub(crate) fn append_distinct(
     notes: Vec<Note>,
     out: &mut Vec<Note>,
 ) -> Result<(), Memory>
-    ensures { AppendsOnce (λ note. OneOf note notes.items) (IsOk result) out.old.items out.new.items }
+    ensures { AppendsOnce (λ note. OneOf note notes.items)
+        (IsOk result) out.old.items out.new.items }
 {
     let distinct = distinct_of(alloc, notes)?;
     'distinct: for note in distinct {

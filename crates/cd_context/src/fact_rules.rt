@@ -28,7 +28,9 @@ pub(crate) fn conclude_back(
     back: &BackFact,
     out: &mut Vec<Clause>,
 ) -> Result<(), Memory>
-    ensures { (key : List ℕ) → Appends Among (FromBack index.now.normal key store.now.0 store.now.1 back.now) (IsOk result) out.old.items out.new.items }
+    ensures { (key : List ℕ) → Appends Among
+        (FromBack index.now.normal key store.now.0 store.now.1 back.now)
+        (IsOk result) out.old.items out.new.items }
 {
     // what every store keeps is said where its live numbers are lent
     let _live = store.live();
@@ -46,7 +48,9 @@ pub(crate) fn conclude_dead(
     dead: &DeadFact,
     out: &mut Vec<Clause>,
 ) -> Result<(), Memory>
-    ensures { (key : List ℕ) → Appends Among (FromDead index.now.normal key store.now.0 store.now.1 dead.now) (IsOk result) out.old.items out.new.items }
+    ensures { (key : List ℕ) → Appends Among
+        (FromDead index.now.normal key store.now.0 store.now.1 dead.now)
+        (IsOk result) out.old.items out.new.items }
 {
     // what every store keeps is said where its live numbers are lent
     let _live = store.live();
@@ -59,7 +63,8 @@ pub(crate) fn conclude_dead(
 /// Numbers of live clauses, among them each that has this existential.
 fn live_with(alloc: Global, store: &Store, role: Role, key: &Key) -> Result<Vec<usize>, Memory>
     ensures live { IfOk result (λ numbers. (k : ℕ) → OneOf k numbers.items → OneOf k store.now.1) }
-    ensures every { IfOk result (λ numbers. (k : ℕ) → OneOf k store.now.1 → HasElem store.now.0 (Exist role key.now) k → OneOf k numbers.items) }
+    ensures every { IfOk result (λ numbers. (k : ℕ) → OneOf k store.now.1
+        → HasElem store.now.0 (Exist role key.now) k → OneOf k numbers.items) }
 {
     let mut found = Vec::new(alloc);
     store.push_with_existential(role, key, &mut found)?;
@@ -69,7 +74,8 @@ fn live_with(alloc: Global, store: &Store, role: Role, key: &Key) -> Result<Vec<
 
 /// The live ones of these numbers. Logarithmic in the live clauses for each.
 fn live_among(alloc: Global, candidates: &[usize], store: &Store) -> Result<Vec<usize>, Memory>
-    ensures { IfOk result (λ numbers. (k : ℕ) → OneOf k numbers.items ↔ (OneOf k candidates.now × OneOf k store.now.1)) }
+    ensures { IfOk result (λ numbers. (k : ℕ) → OneOf k numbers.items
+        ↔ (OneOf k candidates.now × OneOf k store.now.1)) }
 {
     let mut numbers = Vec::new(alloc);
     'candidates: for i in 0..candidates.len() {

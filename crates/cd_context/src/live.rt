@@ -66,7 +66,8 @@ pub(crate) fn singles(
     live: &[usize],
 ) -> Result<Vec<Atom>, Memory>
     requires { IsStore clauses.now live.now }
-    ensures exact { IfOk result (λ atoms. (b : ℕ) → OneOf b atoms.items ↔ IsSingle (picked clauses.now live.now) b) }
+    ensures exact { IfOk result (λ atoms. (b : ℕ) → OneOf b atoms.items
+        ↔ IsSingle (picked clauses.now live.now) b) }
     ensures ascends { IfOk result (λ atoms. IsStrictlyIncreasing atoms.items) }
 {
     let mut atoms = Vec::new(alloc);
@@ -80,7 +81,8 @@ pub(crate) fn singles(
 
 /// Appends the atom that is alone in the clause, if one is. Constant time.
 fn push_single(clause: &Clause, atoms: &mut Vec<Atom>) -> Result<(), Memory>
-    ensures { OnOk result ((b : ℕ) → OneOf b atoms.new.items ↔ (OneOf b atoms.old.items ⊎ SameSet clause.now (Plain b ∷ []))) }
+    ensures { OnOk result ((b : ℕ) → OneOf b atoms.new.items
+        ↔ (OneOf b atoms.old.items ⊎ SameSet clause.now (Plain b ∷ []))) }
 {
     match only_atom(clause.elems()) {
         Some(atom) => {
@@ -93,7 +95,8 @@ fn push_single(clause: &Clause, atoms: &mut Vec<Atom>) -> Result<(), Memory>
 
 /// The atom of which the list is made alone, if there is one. Constant time.
 fn only_atom(elems: &[Elem]) -> Option<Atom>
-    ensures { MatchOption result ((a : ℕ) → is_only a elems.now ≡ true → ⊥) (λ a. is_only a elems.now ≡ true) }
+    ensures { MatchOption result ((a : ℕ) → is_only a elems.now ≡ true → ⊥)
+        (λ a. is_only a elems.now ≡ true) }
 {
     match elems {
         [Elem::Plain(only)] => Some(*only),

@@ -20,7 +20,8 @@ pub(crate) fn note_links(
     clause: &Clause,
     out: &mut Vec<Note>,
 ) -> Result<(), Memory>
-    ensures { Appends OneOf (IsLinkOf index.now.normal key.now clause.now) (IsOk result) out.old.items out.new.items }
+    ensures { Appends OneOf (IsLinkOf index.now.normal key.now clause.now)
+        (IsOk result) out.old.items out.new.items }
 {
     let count = clause.elems().len();
     'places: for i in 0..count {
@@ -38,7 +39,8 @@ fn note_link_at(
     out: &mut Vec<Note>,
 ) -> Result<(), Memory>
     requires { i < length clause.now }
-    ensures { Appends OneOf (IsLinkAt index.now.normal key.now clause.now i) (IsOk result) out.old.items out.new.items }
+    ensures { Appends OneOf (IsLinkAt index.now.normal key.now clause.now i)
+        (IsOk result) out.old.items out.new.items }
 {
     match &clause.elems()[i] {
         Elem::Plain(_) => Ok(()),
@@ -54,7 +56,8 @@ fn note_link_at(
 
 /// Appends the link to the context of the key `to`. Linear in both keys.
 fn note_link(key: &Key, role: Role, to: &Key, out: &mut Vec<Note>) -> Result<(), Memory>
-    ensures { Appends OneOf (IsLinkNote key.now role to.now) (IsOk result) out.old.items out.new.items }
+    ensures { Appends OneOf (IsLinkNote key.now role to.now)
+        (IsOk result) out.old.items out.new.items }
 {
     out.push(Note {
         key: to.copy()?,
@@ -72,7 +75,8 @@ pub(crate) fn tell(
     links: &[LinkFact],
     out: &mut Vec<Note>,
 ) -> Result<(), Memory>
-    ensures { Appends OneOf (IsToldBy index.now.normal key.now links.now clause.now) (IsOk result) out.old.items out.new.items }
+    ensures { Appends OneOf (IsToldBy index.now.normal key.now links.now clause.now)
+        (IsOk result) out.old.items out.new.items }
 {
     let count = clause.elems().len();
     if count == 0 {
@@ -95,7 +99,8 @@ fn tell_at(
     out: &mut Vec<Note>,
 ) -> Result<(), Memory>
     requires { i < length clause.now }
-    ensures { Appends OneOf (IsBackAt index.now.normal key.now links.now clause.now i) (IsOk result) out.old.items out.new.items }
+    ensures { Appends OneOf (IsBackAt index.now.normal key.now links.now clause.now i)
+        (IsOk result) out.old.items out.new.items }
 {
     match &clause.elems()[i] {
         Elem::Exist(_, _) => Ok(()),
@@ -118,7 +123,9 @@ fn tell_atom(
     links: &[LinkFact],
     out: &mut Vec<Note>,
 ) -> Result<(), Memory>
-    ensures { Appends OneOf (λ note. (f : LinkFact) × OneOf f links.now × IsUsefulBack index.now.normal key.now atom f note) (IsOk result) out.old.items out.new.items }
+    ensures { Appends OneOf (λ note. (f : LinkFact) × OneOf f links.now
+        × IsUsefulBack index.now.normal key.now atom f note)
+        (IsOk result) out.old.items out.new.items }
 {
     let axioms = backs(index, atom);
     if axioms.is_empty() {
@@ -142,7 +149,8 @@ fn tell_back(
     out: &mut Vec<Note>,
 ) -> Result<(), Memory>
     requires { AreAtAtom index.now.normal.n3 atom axioms.now }
-    ensures { Appends OneOf (IsUsefulBack index.now.normal key.now atom link.now) (IsOk result) out.old.items out.new.items }
+    ensures { Appends OneOf (IsUsefulBack index.now.normal key.now atom link.now)
+        (IsOk result) out.old.items out.new.items }
 {
     if is_under_one(index, axioms, link.role) {
         note_back(key, atom, link, out)
@@ -165,7 +173,8 @@ fn is_under_one(index: &Index, axioms: &[Triple], role: Role) -> bool
 
 /// Appends the back of the atom for the link. Linear in both keys.
 fn note_back(key: &Key, atom: Atom, link: &LinkFact, out: &mut Vec<Note>) -> Result<(), Memory>
-    ensures { Appends OneOf (IsBackNote key.now atom link.now) (IsOk result) out.old.items out.new.items }
+    ensures { Appends OneOf (IsBackNote key.now atom link.now)
+        (IsOk result) out.old.items out.new.items }
 {
     out.push(Note {
         key: link.key.copy()?,
@@ -176,7 +185,8 @@ fn note_back(key: &Key, atom: Atom, link: &LinkFact, out: &mut Vec<Note>) -> Res
 
 /// Appends a dead for each link. Linear in the links.
 fn tell_deads(key: &Key, links: &[LinkFact], out: &mut Vec<Note>) -> Result<(), Memory>
-    ensures { Appends OneOf (λ note. (f : LinkFact) × OneOf f links.now × IsDeadNote key.now f note) (IsOk result) out.old.items out.new.items }
+    ensures { Appends OneOf (λ note. (f : LinkFact) × OneOf f links.now
+        × IsDeadNote key.now f note) (IsOk result) out.old.items out.new.items }
 {
     let mut rest = links;
     'links: while let [link, others @ ..] = rest {
@@ -188,7 +198,8 @@ fn tell_deads(key: &Key, links: &[LinkFact], out: &mut Vec<Note>) -> Result<(), 
 
 /// Appends the dead for the link. Linear in both keys.
 fn note_dead(key: &Key, link: &LinkFact, out: &mut Vec<Note>) -> Result<(), Memory>
-    ensures { Appends OneOf (IsDeadNote key.now link.now) (IsOk result) out.old.items out.new.items }
+    ensures { Appends OneOf (IsDeadNote key.now link.now)
+        (IsOk result) out.old.items out.new.items }
 {
     out.push(Note {
         key: link.key.copy()?,

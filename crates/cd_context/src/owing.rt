@@ -32,8 +32,11 @@ pub(crate) fn owe_since(
     out: &mut Vec<Note>,
 ) -> Result<(), Memory>
     ensures { (backs : List BackFact) (deads : List DeadFact) → Sends index.now.normal (IsOk result)
-        (Owes index.now.normal (record { key = key.now; clauses = store.now.0; live = filter (λ k. nat_lt k stored) store.now.1; links = links.now; backs = backs; deads = deads }))
-        (record { key = key.now; clauses = store.now.0; live = store.now.1; links = links.now; backs = backs; deads = deads })
+        (Owes index.now.normal (record { key = key.now; clauses = store.now.0;
+        live = filter (λ k. nat_lt k stored) store.now.1; links = links.now; backs = backs;
+        deads = deads }))
+        (record { key = key.now; clauses = store.now.0; live = store.now.1; links = links.now;
+        backs = backs; deads = deads })
         out.old.items out.new.items }
 {
     owe_all(
@@ -65,7 +68,9 @@ fn owe_all(
     out: &mut Vec<Note>,
 ) -> Result<(), Memory>
     requires { (k : ℕ) → OneOf k numbers.now → k < length clauses.now }
-    ensures { Appends OneOf (λ note. (k : ℕ) × OneOf k numbers.now × IsOwedBy index.now.normal key.now links.now (slice_index_or clauses.now k []) note) (IsOk result) out.old.items out.new.items }
+    ensures { Appends OneOf (λ note. (k : ℕ) × OneOf k numbers.now
+        × IsOwedBy index.now.normal key.now links.now (slice_index_or clauses.now k []) note)
+        (IsOk result) out.old.items out.new.items }
 {
     let mut rest = numbers;
     'numbers: while let [number, others @ ..] = rest {
@@ -83,7 +88,8 @@ fn owe_one(
     links: &[LinkFact],
     out: &mut Vec<Note>,
 ) -> Result<(), Memory>
-    ensures { Appends OneOf (IsOwedBy index.now.normal key.now links.now clause.now) (IsOk result) out.old.items out.new.items }
+    ensures { Appends OneOf (IsOwedBy index.now.normal key.now links.now clause.now)
+        (IsOk result) out.old.items out.new.items }
 {
     note_links(index, key, clause, out)?;
     tell(index, key, clause, links, out)
@@ -99,9 +105,12 @@ pub(crate) fn owe_link(
     link: &LinkFact,
     out: &mut Vec<Note>,
 ) -> Result<(), Memory>
-    ensures { (earlier : List LinkFact) (backs : List BackFact) (deads : List DeadFact) → Sends index.now.normal (IsOk result)
-        (Owes index.now.normal (record { key = key.now; clauses = store.now.0; live = store.now.1; links = earlier; backs = backs; deads = deads }))
-        (record { key = key.now; clauses = store.now.0; live = store.now.1; links = earlier ++ link.now ∷ []; backs = backs; deads = deads })
+    ensures { (earlier : List LinkFact) (backs : List BackFact) (deads : List DeadFact)
+        → Sends index.now.normal (IsOk result)
+        (Owes index.now.normal (record { key = key.now; clauses = store.now.0; live = store.now.1;
+        links = earlier; backs = backs; deads = deads }))
+        (record { key = key.now; clauses = store.now.0; live = store.now.1;
+        links = earlier ++ link.now ∷ []; backs = backs; deads = deads })
         out.old.items out.new.items }
 {
     tell_all(
@@ -125,7 +134,9 @@ fn tell_all(
     out: &mut Vec<Note>,
 ) -> Result<(), Memory>
     requires { (k : ℕ) → OneOf k numbers.now → k < length clauses.now }
-    ensures { Appends OneOf (λ note. (k : ℕ) × OneOf k numbers.now × IsToldBy index.now.normal key.now links.now (slice_index_or clauses.now k []) note) (IsOk result) out.old.items out.new.items }
+    ensures { Appends OneOf (λ note. (k : ℕ) × OneOf k numbers.now
+        × IsToldBy index.now.normal key.now links.now (slice_index_or clauses.now k []) note)
+        (IsOk result) out.old.items out.new.items }
 {
     let mut rest = numbers;
     'numbers: while let [number, others @ ..] = rest {

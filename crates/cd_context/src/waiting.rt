@@ -29,7 +29,9 @@ impl Model for Waiting {
 
     ghost view = { λ w. map (λ r. r.0) (heap_items w.heap) };
 
-    ghost invariant = { λ w. IsHeap (λ x y. ordering_then (nat_cmp y.0.0 x.0.0) (nat_cmp y.0.1 x.0.1)) (heap_items w.heap) × AreAmong w.numbers (map (λ r. r.0) (heap_items w.heap)) };
+    ghost invariant = { λ w. IsHeap
+        (λ x y. ordering_then (nat_cmp y.0.0 x.0.0) (nat_cmp y.0.1 x.0.1)) (heap_items w.heap)
+        × AreAmong w.numbers (map (λ r. r.0) (heap_items w.heap)) };
 }
 
 impl Waiting {

@@ -6,7 +6,8 @@ use Rattle.cd_core.specs.declared.stops.Step.{Step}
 use Rattle.cd_core.specs.declared.stops.Step.TheVariants.{Delivered, Empty}
 
 -- the cell of the message takes it, the others stay, and `out` is what it came to owe
-pub record IsTurn {A M : Type 0} (g : Meaning A M) (cells : List A) (x : ℕ × M) (cells_new : List A) (out : List (ℕ × M)) : Type 0 where
+pub record IsTurn {A M : Type 0} (g : Meaning A M) (cells : List A) (x : ℕ × M)
+    (cells_new : List A) (out : List (ℕ × M)) : Type 0 where
   pub old : A
   pub new : A
   pub at : At cells x.0 old
@@ -14,7 +15,8 @@ pub record IsTurn {A M : Type 0} (g : Meaning A M) (cells : List A) (x : ℕ × 
   pub delivery : Delivery g old x.1 new out
 
 -- the message of that choice is delivered; the others pend in their order, and what its cell came to owe behind them
-pub record IsStep {A M : Type 0} (g : Meaning A M) (choice : ℕ) (cells : List A) (pending : List (ℕ × M)) (cells_new : List A) (pending_new : List (ℕ × M)) : Type 0 where
+pub record IsStep {A M : Type 0} (g : Meaning A M) (choice : ℕ) (cells : List A)
+    (pending : List (ℕ × M)) (cells_new : List A) (pending_new : List (ℕ × M)) : Type 0 where
   pub message : ℕ × M
   pub out : List (ℕ × M)
   pub is : At pending (choice % length pending) message
@@ -22,6 +24,7 @@ pub record IsStep {A M : Type 0} (g : Meaning A M) (choice : ℕ) (cells : List 
   pub joins : pending_new ≡ remove pending (choice % length pending) ++ out
 
 -- a delivery, or nothing where nothing pends
-abbrev pub IsStepOrEmpty : {A M : Type 0} → Meaning A M → ℕ → List A × List (ℕ × M) × Bool → List A × List (ℕ × M) × Bool → Step → Type 0
+abbrev pub IsStepOrEmpty : {A M : Type 0} → Meaning A M → ℕ → List A × List (ℕ × M) × Bool
+    → List A × List (ℕ × M) × Bool → Step → Type 0
 IsStepOrEmpty g choice old new Delivered = IsStep g choice old.0 old.1 new.0 new.1
 IsStepOrEmpty g choice old new Empty = (old.1 ≡ []) × (new ≡ old)

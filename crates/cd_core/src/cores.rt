@@ -30,7 +30,8 @@ impl<A: Actor> Model for Core<A> {
 
     ghost view = { λ c. (c.cells.items, c.pending, c.failed) };
 
-    ghost invariant = { λ c. IsSound A.meaning c.cells.items c.pending c.contexts c.facts c.failed };
+    ghost invariant = { λ c. IsSound A.meaning c.cells.items c.pending c.contexts c.facts
+        c.failed };
 }
 
 impl<A: Actor> Core<A> {
@@ -79,7 +80,8 @@ impl<A: Actor> Core<A> {
         A: Drop,
         A::Msg: Drop,
         ensures ok { IfOk result (λ step. IsStepOrEmpty A.meaning choice self.old self.new step) }
-        ensures keeps { OnOk result (KeepsAll A.meaning self.old.0 self.old.1 self.new.0 self.new.1) }
+        ensures keeps { OnOk result
+            (KeepsAll A.meaning self.old.0 self.old.1 self.new.0 self.new.1) }
         ensures family { OnOk result (KeepsFamily A.meaning self.old.0 self.new.0) }
         ensures sound { OnOk result (Runs A.meaning self.new.0 self.new.1) }
         ensures stands { OnOk result (self.new.2 ≡ false) }
@@ -121,9 +123,14 @@ impl<A: Actor> Core<A> {
     where
         A: Drop,
         A::Msg: Drop,
-        ensures ok { IfOk result (λ cells. IsEnd A.meaning self.0 self.1 limits.now.max_contexts limits.now.max_facts cells.items) }
-        ensures stop { IfErr result (λ stop. IsStop A.meaning self.0 limits.now.max_contexts limits.now.max_facts stop) }
-        ensures at_once { IfErr result (λ stop. StopsAtOnce A.meaning self.0 limits.now.max_contexts limits.now.max_facts stop) }
+        ensures ok { IfOk result (λ cells.
+            IsEnd A.meaning self.0 self.1 limits.now.max_contexts limits.now.max_facts
+            cells.items) }
+        ensures stop { IfErr result
+            (λ stop. IsStop A.meaning self.0 limits.now.max_contexts limits.now.max_facts stop) }
+        ensures at_once { IfErr result
+            (λ stop. StopsAtOnce A.meaning self.0 limits.now.max_contexts limits.now.max_facts
+            stop) }
         ensures spent { self.2 ≡ true → IfOk result (λ _. ⊥) }
     {
         let Core {

@@ -91,7 +91,8 @@ impl Actor for Numbers {
 /// Appends what the number owes.
 fn put_owed(places: u32, number: u32, out: &mut Outbox<u32>) -> Result<(), Memory>
     requires { 0 < places }
-    ensures ok { OnOk result (out.new ≡ out.old ++ (if number == 0 then [] else ((number - 1) % places, number - 1) ∷ [])) }
+    ensures ok { OnOk result (out.new
+        ≡ out.old ++ (if number == 0 then [] else ((number - 1) % places, number - 1) ∷ [])) }
     ensures err { OnErr result (out.new ≡ out.old) }
 {
     if number > 0 {

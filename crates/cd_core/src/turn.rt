@@ -25,17 +25,20 @@ pub(crate) fn deliver_to<A: Actor>(
     requires runs { Runs A.meaning cells.old.items ((cell, message) ∷ pending.old) }
     requires contexts { contexts.old ≡ total A.meaning.contexts cells.old.items }
     requires facts { facts.old ≡ total A.meaning.facts cells.old.items }
-    ensures turn { OnOk result (IsTurn A.meaning cells.old.items (cell, message) cells.new.items (sent pending.old pending.new)) }
+    ensures turn { OnOk result (IsTurn A.meaning cells.old.items (cell, message) cells.new.items
+        (sent pending.old pending.new)) }
     ensures follows { OnOk result (pending.new ≡ pending.old ++ sent pending.old pending.new) }
     ensures runs { OnOk result (Runs A.meaning cells.new.items pending.new) }
-    ensures keeps { OnOk result (KeepsAll A.meaning cells.old.items ((cell, message) ∷ pending.old) cells.new.items pending.new) }
+    ensures keeps { OnOk result (KeepsAll A.meaning cells.old.items
+        ((cell, message) ∷ pending.old) cells.new.items pending.new) }
     ensures had { OnOk result (KeepsHad A.meaning cells.old.items cells.new.items) }
     ensures family { OnOk result (KeepsFamily A.meaning cells.old.items cells.new.items) }
     ensures contexts { OnOk result (contexts.new ≡ total A.meaning.contexts cells.new.items) }
     ensures facts { OnOk result (facts.new ≡ total A.meaning.facts cells.new.items) }
     ensures more_contexts { OnOk result (contexts.old ≤ contexts.new) }
     ensures more_facts { OnOk result (facts.old ≤ facts.new) }
-    ensures rises { OnOk result (contexts.old < last → facts.old < last → (contexts.old + facts.old < contexts.new + facts.new) ⊎ (pending.new ≡ pending.old)) }
+    ensures rises { OnOk result (contexts.old < last → facts.old < last
+        → (contexts.old + facts.old < contexts.new + facts.new) ⊎ (pending.new ≡ pending.old)) }
 {
     let place = cell as usize;
     let actor = &mut cells[place];
@@ -68,16 +71,21 @@ where
     requires fewer_contexts { contexts.old < last }
     requires fewer_facts { facts.old < last }
     ensures runs { OnOk result (Runs A.meaning cells.new.items pending.new) }
-    ensures keeps { OnOk result (KeepsAll A.meaning cells.old.items pending.old cells.new.items pending.new) }
+    ensures keeps { OnOk result (KeepsAll A.meaning cells.old.items pending.old cells.new.items
+        pending.new) }
     ensures had { OnOk result (KeepsHad A.meaning cells.old.items cells.new.items) }
     ensures family { OnOk result (KeepsFamily A.meaning cells.old.items cells.new.items) }
     ensures contexts { OnOk result (contexts.new ≡ total A.meaning.contexts cells.new.items) }
     ensures facts { OnOk result (facts.new ≡ total A.meaning.facts cells.new.items) }
     ensures more_contexts { OnOk result (contexts.old ≤ contexts.new) }
     ensures more_facts { OnOk result (facts.old ≤ facts.new) }
-    ensures risen { IfOk result (λ b. b ≡ true → contexts.old + facts.old < contexts.new + facts.new) }
-    ensures turn { IfOk result (λ b. b ≡ true → IsOneDeliveryPast A.meaning cells.old.items (contexts.old + 1) (facts.old + 1) cells.new.items) }
-    ensures done { IfOk result (λ b. b ≡ false → (pending.new ≡ []) × (contexts.new ≡ contexts.old) × (facts.new ≡ facts.old)) }
+    ensures risen { IfOk result (λ b. b ≡ true
+        → contexts.old + facts.old < contexts.new + facts.new) }
+    ensures turn { IfOk result (λ b. b ≡ true
+        → IsOneDeliveryPast A.meaning cells.old.items (contexts.old + 1)
+        (facts.old + 1) cells.new.items) }
+    ensures done { IfOk result (λ b. b ≡ false
+        → (pending.new ≡ []) × (contexts.new ≡ contexts.old) × (facts.new ≡ facts.old)) }
 {
     let contexts_before = *contexts;
     let facts_before = *facts;

@@ -18,11 +18,13 @@ level_iri letter level = iri (letter ++ decimal level)
 
 -- A, B, C and U of a level
 abbrev pub level_classes : ℕ → List (List ℕ)
-level_classes level = level_iri (codes "A") level ∷ level_iri (codes "B") level ∷ level_iri (codes "C") level ∷ level_iri (codes "U") level ∷ []
+level_classes level = level_iri (codes "A") level ∷ level_iri (codes "B") level
+    ∷ level_iri (codes "C") level ∷ level_iri (codes "U") level ∷ []
 
 -- owl:Thing, owl:Nothing, D, E, and then the classes of levels 0 to n - 1
 abbrev pub generated_classes : ℕ → List (List ℕ)
-generated_classes n = thing ∷ nothing ∷ iri (codes "D") ∷ iri (codes "E") ∷ flat_map level_classes (range_with_len 0 n)
+generated_classes n = thing ∷ nothing ∷ iri (codes "D") ∷ iri (codes "E")
+    ∷ flat_map level_classes (range_with_len 0 n)
 
 -- R and S
 abbrev pub generated_roles : List (List ℕ)
@@ -75,7 +77,8 @@ class_axioms level =
 
 -- each A but that of level 0 has an R-edge to the A before it
 abbrev pub edge_axioms : ℕ → List Axiom
-edge_axioms level = if level == 0 then [] else SubClass (Name (class_a level)) (SomeOf role_r (Name (class_a (level - 1)))) ∷ []
+edge_axioms level = if level == 0 then [] else SubClass (Name (class_a level))
+    (SomeOf role_r (Name (class_a (level - 1)))) ∷ []
 
 abbrev pub level_axioms : ℕ → List Axiom
 level_axioms level = class_axioms level ++ edge_axioms level
@@ -83,4 +86,5 @@ level_axioms level = class_axioms level ++ edge_axioms level
 -- R is below S, whatever has an S-edge to D is in E, and then the axioms of levels 0 to n - 1
 abbrev pub generated_axioms : ℕ → List Axiom
 generated_axioms n =
-    SubRole role_r role_s ∷ SubClass (SomeOf role_s (Name class_d)) (Name class_e) ∷ flat_map level_axioms (range_with_len 0 n)
+    SubRole role_r role_s ∷ SubClass (SomeOf role_s (Name class_d)) (Name class_e)
+        ∷ flat_map level_axioms (range_with_len 0 n)

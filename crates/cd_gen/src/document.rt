@@ -23,12 +23,15 @@ pub fn make(alloc: Global, n: u32) -> Result<Document, Memory>
     ensures roles { IfOk result (λ document. document.roles ≡ generated_roles) }
 
     // The numbers in its axioms are those of its names.
-    ensures named { IfOk result (λ document. (level : ℕ) → level < n → IsLevelNamed document.classes level) }
+    ensures named { IfOk result (λ document. (level : ℕ) → level < n
+        → IsLevelNamed document.classes level) }
 
     // How large it is, and of which bytes its names are.
-    ensures counts { IfOk result (λ document. (length document.classes ≡ 4 * n + 4) × (length document.axioms ≡ 6 * n + 1) × (nodes document.axioms ≡ 21 * n + 1)) }
+    ensures counts { IfOk result (λ document. (length document.classes ≡ 4 * n + 4)
+        × (length document.axioms ≡ 6 * n + 1) × (nodes document.axioms ≡ 21 * n + 1)) }
     ensures small { IfOk result (λ document. nodes document.axioms < 1000000) }
-    ensures few { IfOk result (λ document. length document.classes + 6 * nodes document.axioms < 2 ^ 32 - 1) }
+    ensures few { IfOk result (λ document. length document.classes + 6 * nodes document.axioms
+        < 2 ^ 32 - 1) }
     ensures iris { IfOk result (λ document. All IsIri document.classes) }
 {
     let axioms = axioms(alloc, n)?;

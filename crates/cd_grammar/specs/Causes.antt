@@ -74,9 +74,11 @@ first_of_causes None false false false = Syntax
 
 -- of an item that can't be taken, where this is wanted
 abbrev pub cause_of : Known → List Symbol → Item → Cause
-cause_of known [] item = first_of_causes (refused known item false) (is_unknown known item) false false
+cause_of known [] item = first_of_causes (refused known item false)
+    (is_unknown known item) false false
 cause_of known (symbol ∷ stack) item =
-    first_of_causes (refused known item (wants_role symbol)) (is_unknown known item) (is_prefix_iri symbol item) (is_over symbol item)
+    first_of_causes (refused known item (wants_role symbol)) (is_unknown known item)
+        (is_prefix_iri symbol item) (is_over symbol item)
 
 -- ---- a machine that keeps the cause
 
@@ -92,4 +94,5 @@ standing_of known stack placed None = Stopped (refusal_at (cause_of known stack 
 -- after an item
 abbrev pub stand_after : Standing → PlacedItem → Standing
 stand_after (Stopped refusal) placed = Stopped refusal
-stand_after (Going known stack) placed = standing_of known stack placed (step nesting (Some (known, stack)) placed.0)
+stand_after (Going known stack) placed =
+    standing_of known stack placed (step nesting (Some (known, stack)) placed.0)

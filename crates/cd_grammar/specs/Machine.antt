@@ -80,16 +80,21 @@ closed known (Some (Made.Expr e)) stack = given known e stack
 abbrev pub deeper : Bool → ℕ → Known → ExprForm → List Symbol → Option State
 deeper false n known form stack = None
 deeper true zero known form stack = None
-deeper true (suc n) known form stack = Some (known, Opening ∷ Inside (bare (Form.Expr form) n) ∷ stack)
+deeper true (suc n) known form stack =
+    Some (known, Opening ∷ Inside (bare (Form.Expr form) n) ∷ stack)
 
 -- a role, or a class in its place
 abbrev pub head_taken : Bool → Known → Frame → List Symbol → List ℕ → Option State
-head_taken true known frame stack i = Some (with_class known i, Inside (with_head frame (number known.classes i)) ∷ stack)
-head_taken false known frame stack i = taken_if (is_role i) (with_role known i, Inside (with_head frame (number known.roles i)) ∷ stack)
+head_taken true known frame stack i =
+    Some (with_class known i, Inside (with_head frame (number known.classes i)) ∷ stack)
+head_taken false known frame stack i =
+    taken_if (is_role i) (with_role known i,
+    Inside (with_head frame (number known.roles i)) ∷ stack)
 
 -- a named class
 abbrev pub part_taken : Known → Frame → List Symbol → List ℕ → Option State
-part_taken known frame stack i = Some (with_class known i, Inside (with_part frame (Name (number known.classes i))) ∷ stack)
+part_taken known frame stack i =
+    Some (with_class known i, Inside (with_part frame (Name (number known.classes i))) ∷ stack)
 
 abbrev pub operand_taken : Known → Frame → List Symbol → Option (List ℕ) → Option State
 operand_taken known frame stack None = None
@@ -99,17 +104,23 @@ operand_taken known frame stack (Some i) =
 
 -- an item behind these operands
 abbrev pub inside_taken : Known → Frame → Item → List Symbol → Option State
-inside_taken known frame Item.Closing stack = closed known (made_of frame.form frame.heads frame.parts) stack
-inside_taken known frame (Word (Keyword.Expr e)) stack = deeper (wants_part_next frame) frame.nesting known e (Inside frame ∷ stack)
+inside_taken known frame Item.Closing stack =
+    closed known (made_of frame.form frame.heads frame.parts) stack
+inside_taken known frame (Word (Keyword.Expr e)) stack =
+    deeper (wants_part_next frame) frame.nesting known e (Inside frame ∷ stack)
 inside_taken known frame item stack = operand_taken known frame stack (iri_of known item)
 
 -- ---- one item
 
 abbrev pub axioms_taken : Known → Item → List Symbol → Option State
-axioms_taken known (Word Keyword.Declaration) stack = Some (known, Opening ∷ DeclarationIn ∷ Axioms ∷ stack)
-axioms_taken known (Word (Keyword.Axiom form)) stack = Some (known, Opening ∷ AxiomIn form ∷ Axioms ∷ stack)
-axioms_taken known (Word Keyword.AnnotationAssertion) stack = Some (known, Opening ∷ AssertionIn ∷ Axioms ∷ stack)
-axioms_taken known (Word Keyword.AnnotationAxiom) stack = Some (known, Opening ∷ AnnotationAxiomIn ∷ Axioms ∷ stack)
+axioms_taken known (Word Keyword.Declaration) stack =
+    Some (known, Opening ∷ DeclarationIn ∷ Axioms ∷ stack)
+axioms_taken known (Word (Keyword.Axiom form)) stack =
+    Some (known, Opening ∷ AxiomIn form ∷ Axioms ∷ stack)
+axioms_taken known (Word Keyword.AnnotationAssertion) stack =
+    Some (known, Opening ∷ AssertionIn ∷ Axioms ∷ stack)
+axioms_taken known (Word Keyword.AnnotationAxiom) stack =
+    Some (known, Opening ∷ AnnotationAxiomIn ∷ Axioms ∷ stack)
 axioms_taken known Item.Closing stack = Some (known, End ∷ stack)
 axioms_taken known item stack = None
 
@@ -120,7 +131,8 @@ notes_taken most known item stack = axioms_taken known item stack
 -- an IRI, and then the second symbol, or what the ontology's annotations begin with
 abbrev pub ontology_iri_taken : ℕ → Known → Item → Symbol → List Symbol → Option State
 ontology_iri_taken most known (FullIri i) next stack = Some (known, next ∷ stack)
-ontology_iri_taken most known (Short p l) next stack = by_iri (iri_of known (Short p l)) (known, next ∷ stack)
+ontology_iri_taken most known (Short p l) next stack =
+    by_iri (iri_of known (Short p l)) (known, next ∷ stack)
 ontology_iri_taken most known item next stack = notes_taken most known item stack
 
 -- what the item leads to at the place of the symbol, with this wanted behind it
@@ -132,30 +144,43 @@ advance most known End Item.End stack = Some (known, stack)
 advance most known Iri item stack = by_iri (iri_of known item) (known, stack)
 advance most known Subject item stack = taken_if (is_subject known item) (known, stack)
 advance most known Class item stack = class_taken known stack (iri_of known item)
-advance most known (PrefixIri p) (FullIri i) stack = bound known p i stack (meaning known.prefixes p)
+advance most known (PrefixIri p) (FullIri i) stack =
+    bound known p i stack (meaning known.prefixes p)
 advance most known Document (Word Keyword.Prefix) stack = Some (known, Opening ∷ Binding ∷ stack)
-advance most known Document (Word Keyword.Ontology) stack = Some (known, Opening ∷ OntologyIri ∷ stack)
-advance most known Binding (Short p []) stack = Some (known, Equals ∷ PrefixIri p ∷ Closing ∷ Document ∷ stack)
+advance most known Document (Word Keyword.Ontology) stack =
+    Some (known, Opening ∷ OntologyIri ∷ stack)
+advance most known Binding (Short p []) stack =
+    Some (known, Equals ∷ PrefixIri p ∷ Closing ∷ Document ∷ stack)
 advance most known OntologyIri item stack = ontology_iri_taken most known item VersionIri stack
 advance most known VersionIri item stack = ontology_iri_taken most known item Annotations stack
 advance most known Annotations item stack = notes_taken most known item stack
 advance most known Axioms item stack = axioms_taken known item stack
-advance most known DeclarationIn (Word Keyword.Annotation) stack = noted most known (DeclarationIn ∷ stack)
-advance most known DeclarationIn (Word Keyword.Class) stack = Some (known, Opening ∷ Class ∷ Closing ∷ Closing ∷ stack)
-advance most known DeclarationIn (Word Keyword.Entity) stack = Some (known, Opening ∷ Iri ∷ Closing ∷ Closing ∷ stack)
-advance most known AssertionIn (Word Keyword.Annotation) stack = noted most known (AssertionIn ∷ stack)
-advance most known AssertionIn item stack = by_iri (iri_of known item) (known, Subject ∷ Value ∷ stack)
-advance most known AnnotationAxiomIn (Word Keyword.Annotation) stack = noted most known (AnnotationAxiomIn ∷ stack)
-advance most known AnnotationAxiomIn item stack = by_iri (iri_of known item) (known, Iri ∷ Closing ∷ stack)
-advance most known (AnnotationIn n) (Word Keyword.Annotation) stack = noted n known (AnnotationIn n ∷ stack)
+advance most known DeclarationIn (Word Keyword.Annotation) stack =
+    noted most known (DeclarationIn ∷ stack)
+advance most known DeclarationIn (Word Keyword.Class) stack =
+    Some (known, Opening ∷ Class ∷ Closing ∷ Closing ∷ stack)
+advance most known DeclarationIn (Word Keyword.Entity) stack =
+    Some (known, Opening ∷ Iri ∷ Closing ∷ Closing ∷ stack)
+advance most known AssertionIn (Word Keyword.Annotation) stack =
+    noted most known (AssertionIn ∷ stack)
+advance most known AssertionIn item stack =
+    by_iri (iri_of known item) (known, Subject ∷ Value ∷ stack)
+advance most known AnnotationAxiomIn (Word Keyword.Annotation) stack =
+    noted most known (AnnotationAxiomIn ∷ stack)
+advance most known AnnotationAxiomIn item stack =
+    by_iri (iri_of known item) (known, Iri ∷ Closing ∷ stack)
+advance most known (AnnotationIn n) (Word Keyword.Annotation) stack =
+    noted n known (AnnotationIn n ∷ stack)
 advance most known (AnnotationIn n) item stack = by_iri (iri_of known item) (known, Value ∷ stack)
 advance most known Value Item.Quoted stack = Some (known, QuotedEnd ∷ stack)
 advance most known Value item stack = taken_if (is_subject known item) (known, Closing ∷ stack)
 advance most known QuotedEnd Item.Closing stack = Some (known, stack)
 advance most known QuotedEnd Item.Lang stack = Some (known, Closing ∷ stack)
 advance most known QuotedEnd Item.Carets stack = Some (known, Iri ∷ Closing ∷ stack)
-advance most known (AxiomIn form) (Word Keyword.Annotation) stack = noted most known (AxiomIn form ∷ stack)
-advance most known (AxiomIn form) item stack = inside_taken known (bare (Form.Axiom form) most) item stack
+advance most known (AxiomIn form) (Word Keyword.Annotation) stack =
+    noted most known (AxiomIn form ∷ stack)
+advance most known (AxiomIn form) item stack =
+    inside_taken known (bare (Form.Axiom form) most) item stack
 advance most known (Inside frame) item stack = inside_taken known frame item stack
 advance most known symbol item stack = None
 

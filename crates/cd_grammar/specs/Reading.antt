@@ -21,7 +21,8 @@ use Rattle.cd_syntax.specs.Refusal.{IsFaulty, IsUnread}
 -- ---- what a reader means
 
 abbrev pub standing : Parser → Standing
-standing parser = elim parser.stopped [ Some refusal ↦ Stopped refusal | None ↦ Going parser.known parser.stack ]
+standing parser = elim parser.stopped
+    [ Some refusal ↦ Stopped refusal | None ↦ Going parser.known parser.stack ]
 
 abbrev pub started : Standing
 started = Going begun (Symbol.Document ∷ [])
@@ -36,12 +37,17 @@ pub record IsReading (reader : Reader) (fed : List ℕ) : Type 0 where
 
 -- what a reader answers at the end of these bytes
 abbrev pub IsFinished : List ℕ → Result Document Refusal → Type 0
-IsFinished fed (Ok document) = IsRead fed document × IsOnly fed document × IsSmall (length fed) document × All IsIri document.classes
+IsFinished fed (Ok document) =
+    IsRead fed document × IsOnly fed document × IsSmall (length fed) document
+    × All IsIri document.classes
 IsFinished fed (Err refusal) = IsFaulty fed refusal × IsUnread fed
 
 -- ---- one item
 
 -- what a parser says of an item that leads to this state, if it can be taken
 abbrev pub IsTried : Option State → Parser → Parser → Item → Option Cause → Type 0
-IsTried (Some state) before after item found = (found ≡ None) × (after.known ≡ state.0) × (after.stack ≡ state.1) × (after.stopped ≡ before.stopped)
-IsTried None before after item found = (found ≡ Some (cause_of before.known before.stack item)) × (after.stopped ≡ before.stopped)
+IsTried (Some state) before after item found =
+    (found ≡ None) × (after.known ≡ state.0) × (after.stack ≡ state.1)
+    × (after.stopped ≡ before.stopped)
+IsTried None before after item found =
+    (found ≡ Some (cause_of before.known before.stack item)) × (after.stopped ≡ before.stopped)

@@ -15,13 +15,15 @@ use Rattle.cd_syntax.specs.Items.{PlacedItem, placed_items, last_item, all_of}
 use Rattle.cd_grammar.specs.Reading.{IsReading, standing, started}
 
 -- the lexer was fed these bytes in all and gave these tokens, and the parser took them
-pub record Takes (lexer : State) (parser : Parser) (fed : List ℕ) (taken : List Token) : Type 0 where
+pub record Takes (lexer : State) (parser : Parser) (fed : List ℕ)
+    (taken : List Token) : Type 0 where
   pub lexing : IsLexing lexer fed taken
   pub stands : standing parser ≡ fold stand_after started (placed_items taken)
 
 -- and no further token has ended
 abbrev pub TakesAll : State → Parser → List ℕ → Type 0
-TakesAll lexer parser fed = (taken : List Token) × Takes lexer parser fed taken × AreAll lexer.closed lexer.fault fed taken
+TakesAll lexer parser fed = (taken : List Token) × Takes lexer parser fed taken
+    × AreAll lexer.closed lexer.fault fed taken
 
 -- what ends the items of a text of n bytes, where a closed lexer has this fault
 abbrev pub IsLast : Option LexFault → ℕ → PlacedItem → Type 0
@@ -32,8 +34,10 @@ IsLast (Some Memory) n placed = ⊥
 -- the parser took all items of the text
 abbrev pub TakesText : Parser → List ℕ → Type 0
 TakesText parser fed =
-    (taken : List Token) × (ending : Ending) × HasItems fed taken ending × (standing parser ≡ fold stand_after started (all_of taken ending))
+    (taken : List Token) × (ending : Ending) × HasItems fed taken ending
+        × (standing parser ≡ fold stand_after started (all_of taken ending))
 
 -- the reader was fed n bytes, and a source lost these
 abbrev pub IsFedFrom : Option (List ℕ) → Option (List ℕ) → Reader → ℕ → Type 0
-IsFedFrom left later reader n = (fed : List ℕ) × IsReading reader fed × Consumes left later fed × (length fed ≡ n)
+IsFedFrom left later reader n =
+    (fed : List ℕ) × IsReading reader fed × Consumes left later fed × (length fed ≡ n)

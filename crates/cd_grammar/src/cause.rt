@@ -127,7 +127,9 @@ pub(crate) fn find_cause(
     clash: bool,
     over: bool,
 ) -> Result<Cause, Memory>
-    ensures { IfOk result (λ cause. cause ≡ first_of_causes (refused known.now item.now wants_role) (is_unknown known.now item.now) clash over) }
+    ensures { IfOk result (λ cause. cause
+        ≡ first_of_causes (refused known.now item.now wants_role)
+        (is_unknown known.now item.now) clash over) }
 {
     if let Some(number) = refused(alloc, known, item, wants_role)? {
         return Ok(Cause::Construct(number));

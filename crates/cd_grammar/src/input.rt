@@ -56,7 +56,8 @@ pub fn read_document<S: Source>(
 ) -> Result<Document, ReadRefusal>
     // The input was an accepted document, read to its end.
     ensures read { IfSome (S.left source.old) (λ input. IfOk result (λ document.
-        (length input ≤ limits.now.max_bytes) × (S.left source.new ≡ Some []) × IsRead input document)) }
+        (length input ≤ limits.now.max_bytes) × (S.left source.new ≡ Some [])
+        × IsRead input document)) }
     ensures only { IfSome (S.left source.old) (λ input. IfOk result (IsOnly input)) }
     ensures ended { OnOk result (S.ended source.new ≡ true) }
     ensures after { OnOk result (S.after source.new ≡ S.after source.old) }
@@ -66,13 +67,16 @@ pub fn read_document<S: Source>(
 
     // How large the document is, and of which bytes its names are.
     ensures within { IfOk result (λ document. IsSmall limits.now.max_bytes document) }
-    ensures small { IfSome (S.left source.old) (λ input. IfOk result (λ document. IsSmall (length input) document)) }
+    ensures small { IfSome (S.left source.old)
+        (λ input. IfOk result (λ document. IsSmall (length input) document)) }
     ensures iris { IfOk result (λ document. All IsIri document.classes) }
 
     // Each refusal has its cause.
-    ensures refused { IfSome (S.left source.old) (λ input. (refusal : Refusal) → result ≡ Err (ReadRefusal.Refused refusal)
+    ensures refused { IfSome (S.left source.old)
+        (λ input. (refusal : Refusal) → result ≡ Err (ReadRefusal.Refused refusal)
         → IsRefused input limits.now.max_bytes refusal) }
-    ensures read_fault { IsErrOf result ReadRefusal.ReadFault → Rose (S.faults source.old) (S.faults source.new) }
+    ensures read_fault { IsErrOf result ReadRefusal.ReadFault
+        → Rose (S.faults source.old) (S.faults source.new) }
     ensures unended { IsErrOf result ReadRefusal.ReadFault → S.ended source.new ≡ false }
 {
     let most = limits.max_bytes + 1;
@@ -96,14 +100,17 @@ fn feed_all<S: Source>(
 ) -> Result<u64, ReadRefusal>
     requires fresh { IsReading reader.old [] }
     requires few { most < 2 ^ 31 }
-    ensures fed { IfOk result (λ count. IsFedFrom (S.left source.old) (S.left source.new) reader.new count) }
+    ensures fed { IfOk result (λ count.
+        IsFedFrom (S.left source.old) (S.left source.new) reader.new count) }
     ensures within { IfOk result (λ count. count ≤ most) }
-    ensures end { IfOk result (λ count. ((S.ended source.new ≡ true) × IsAtEnd (S.left source.new)) ⊎ (count ≡ most)) }
+    ensures end { IfOk result (λ count. ((S.ended source.new ≡ true) × IsAtEnd (S.left source.new))
+        ⊎ (count ≡ most)) }
     ensures after { OnOk result (S.after source.new ≡ S.after source.old) }
     ensures taken { LosesAtMost (S.left source.old) (S.left source.new) most }
     ensures later { S.faults source.old ≤ S.faults source.new }
     ensures unjudged { (refusal : Refusal) → result ≡ Err (ReadRefusal.Refused refusal) → ⊥ }
-    ensures fault { IsErrOf result ReadRefusal.ReadFault → Rose (S.faults source.old) (S.faults source.new) }
+    ensures fault { IsErrOf result ReadRefusal.ReadFault
+        → Rose (S.faults source.old) (S.faults source.new) }
     ensures unended { IsErrOf result ReadRefusal.ReadFault → S.ended source.new ≡ false }
 {
     let mut buf = buffer(alloc, PIECE)?;

@@ -40,7 +40,8 @@ impl Parser {
     pub(crate) fn take(&mut self, alloc: Global, item: &Item, place: u64) -> Result<(), Memory>
         requires classes { length self.old.known.classes < 2 ^ 32 - 1 }
         requires roles { length self.old.known.roles < 2 ^ 32 - 1 }
-        ensures stands { OnOk result (standing self.new ≡ stand_after (standing self.old) (item.now, place)) }
+        ensures stands { OnOk result (standing self.new
+            ≡ stand_after (standing self.old) (item.now, place)) }
     {
         if self.stopped.is_some() {
             return Ok(());
@@ -55,7 +56,9 @@ impl Parser {
     fn try_item(&mut self, alloc: Global, item: &Item) -> Result<Option<Cause>, Memory>
         requires classes { length self.old.known.classes < 2 ^ 32 - 1 }
         requires roles { length self.old.known.roles < 2 ^ 32 - 1 }
-        ensures tried { IfOk result (λ found. IsTried (step nesting (Some (self.old.known, self.old.stack)) item.now) self.old self.new item.now found) }
+        ensures tried { IfOk result
+            (λ found. IsTried (step nesting (Some (self.old.known, self.old.stack)) item.now)
+            self.old self.new item.now found) }
     {
         let Some(symbol) = self.stack.pop() else {
             let bare = find_cause(alloc, &self.known, item, false, false, false)?;

@@ -25,7 +25,8 @@ const NESTING: u64 = 256;
 
 /// Takes the word of an annotation, if so many more may stand inside each other.
 fn noted(known: &Known, stack: &mut Stack, nesting: u64) -> Result<bool, Memory>
-    ensures { IfOk result (λ ok. IsTaken (noted nesting known.now stack.old) known.now known.now stack.new ok) }
+    ensures { IfOk result (λ ok.
+        IsTaken (noted nesting known.now stack.old) known.now known.now stack.new ok) }
 {
     if nesting == 0 {
         return Ok(false);
@@ -37,7 +38,8 @@ fn noted(known: &Known, stack: &mut Stack, nesting: u64) -> Result<bool, Memory>
 
 /// Takes what begins an axiom, or ends the ontology.
 fn axioms(known: &Known, stack: &mut Stack, item: &Item) -> Result<bool, Memory>
-    ensures { IfOk result (λ ok. IsTaken (axioms_taken known.now item.now stack.old) known.now known.now stack.new ok) }
+    ensures { IfOk result (λ ok.
+        IsTaken (axioms_taken known.now item.now stack.old) known.now known.now stack.new ok) }
 {
     if let Item::Closing = item {
         stack.push(Symbol::End)?;
@@ -58,7 +60,9 @@ fn axioms(known: &Known, stack: &mut Stack, item: &Item) -> Result<bool, Memory>
 
 /// Takes what begins an annotation of the ontology or an axiom, or ends the ontology.
 fn notes(known: &Known, stack: &mut Stack, item: &Item) -> Result<bool, Memory>
-    ensures { IfOk result (λ ok. IsTaken (notes_taken nesting known.now item.now stack.old) known.now known.now stack.new ok) }
+    ensures { IfOk result (λ ok.
+        IsTaken (notes_taken nesting known.now item.now stack.old) known.now known.now stack.new
+        ok) }
 {
     if let Item::Word(Keyword::Annotation) = item {
         stack.push(Symbol::Annotations)?;
@@ -69,7 +73,9 @@ fn notes(known: &Known, stack: &mut Stack, item: &Item) -> Result<bool, Memory>
 
 /// Takes an IRI of the ontology, or what follows its IRIs.
 fn ontology_iri(known: &Known, stack: &mut Stack, item: &Item, next: Symbol) -> Result<bool, Memory>
-    ensures { IfOk result (λ ok. IsTaken (ontology_iri_taken nesting known.now item.now next stack.old) known.now known.now stack.new ok) }
+    ensures { IfOk result (λ ok.
+        IsTaken (ontology_iri_taken nesting known.now item.now next stack.old) known.now known.now
+        stack.new ok) }
 {
     match item {
         Item::FullIri(_) | Item::Short(_, _) => {
@@ -82,7 +88,9 @@ fn ontology_iri(known: &Known, stack: &mut Stack, item: &Item, next: Symbol) -> 
 
 /// Takes what begins a prefix declaration or the ontology.
 fn document(known: &Known, stack: &mut Stack, item: &Item) -> Result<bool, Memory>
-    ensures { IfOk result (λ ok. IsTaken (advance nesting known.now Symbol.Document item.now stack.old) known.now known.now stack.new ok) }
+    ensures { IfOk result (λ ok.
+        IsTaken (advance nesting known.now Symbol.Document item.now stack.old) known.now known.now
+        stack.new ok) }
 {
     let inside = match item {
         Item::Word(Keyword::Prefix) => Symbol::Binding,
@@ -96,7 +104,9 @@ fn document(known: &Known, stack: &mut Stack, item: &Item) -> Result<bool, Memor
 
 /// Takes the name of a prefix.
 fn binding(alloc: Global, known: &Known, stack: &mut Stack, item: &Item) -> Result<bool, Memory>
-    ensures { IfOk result (λ ok. IsTaken (advance nesting known.now Symbol.Binding item.now stack.old) known.now known.now stack.new ok) }
+    ensures { IfOk result (λ ok.
+        IsTaken (advance nesting known.now Symbol.Binding item.now stack.old) known.now known.now
+        stack.new ok) }
 {
     let Item::Short(prefix, local) = item else {
         return Ok(false);
@@ -120,7 +130,9 @@ fn prefix_iri(
     prefix: &Seq<u8>,
     item: &Item,
 ) -> Result<bool, Memory>
-    ensures { IfOk result (λ ok. IsTaken (advance nesting known.old (Symbol.PrefixIri prefix.now) item.now stack.now) known.old known.new stack.now ok) }
+    ensures { IfOk result (λ ok.
+        IsTaken (advance nesting known.old (Symbol.PrefixIri prefix.now) item.now stack.now)
+        known.old known.new stack.now ok) }
 {
     let Item::FullIri(iri) = item else {
         return Ok(false);
@@ -134,7 +146,9 @@ fn prefix_iri(
 
 /// Takes an annotation of a declaration, or the word of its entity.
 fn declaration_in(known: &Known, stack: &mut Stack, item: &Item) -> Result<bool, Memory>
-    ensures { IfOk result (λ ok. IsTaken (advance nesting known.now Symbol.DeclarationIn item.now stack.old) known.now known.now stack.new ok) }
+    ensures { IfOk result (λ ok.
+        IsTaken (advance nesting known.now Symbol.DeclarationIn item.now stack.old) known.now
+        known.now stack.new ok) }
 {
     let inside = match item {
         Item::Word(Keyword::Annotation) => {
@@ -154,7 +168,9 @@ fn declaration_in(known: &Known, stack: &mut Stack, item: &Item) -> Result<bool,
 
 /// Takes an annotation of an assertion, or its property.
 fn assertion_in(known: &Known, stack: &mut Stack, item: &Item) -> Result<bool, Memory>
-    ensures { IfOk result (λ ok. IsTaken (advance nesting known.now Symbol.AssertionIn item.now stack.old) known.now known.now stack.new ok) }
+    ensures { IfOk result (λ ok.
+        IsTaken (advance nesting known.now Symbol.AssertionIn item.now stack.old) known.now
+        known.now stack.new ok) }
 {
     if let Item::Word(Keyword::Annotation) = item {
         stack.push(Symbol::AssertionIn)?;
@@ -167,7 +183,9 @@ fn assertion_in(known: &Known, stack: &mut Stack, item: &Item) -> Result<bool, M
 
 /// Takes an annotation of an axiom on annotations, or its property.
 fn annotation_axiom_in(known: &Known, stack: &mut Stack, item: &Item) -> Result<bool, Memory>
-    ensures { IfOk result (λ ok. IsTaken (advance nesting known.now Symbol.AnnotationAxiomIn item.now stack.old) known.now known.now stack.new ok) }
+    ensures { IfOk result (λ ok.
+        IsTaken (advance nesting known.now Symbol.AnnotationAxiomIn item.now stack.old) known.now
+        known.now stack.new ok) }
 {
     if let Item::Word(Keyword::Annotation) = item {
         stack.push(Symbol::AnnotationAxiomIn)?;
@@ -180,7 +198,9 @@ fn annotation_axiom_in(known: &Known, stack: &mut Stack, item: &Item) -> Result<
 
 /// Takes an annotation of an annotation, or its property.
 fn note_in(known: &Known, stack: &mut Stack, item: &Item, inner: u64) -> Result<bool, Memory>
-    ensures { IfOk result (λ ok. IsTaken (advance nesting known.now (Symbol.AnnotationIn inner) item.now stack.old) known.now known.now stack.new ok) }
+    ensures { IfOk result (λ ok.
+        IsTaken (advance nesting known.now (Symbol.AnnotationIn inner) item.now stack.old)
+        known.now known.now stack.new ok) }
 {
     if let Item::Word(Keyword::Annotation) = item {
         stack.push(Symbol::AnnotationIn(inner))?;
@@ -192,7 +212,9 @@ fn note_in(known: &Known, stack: &mut Stack, item: &Item, inner: u64) -> Result<
 
 /// Takes the value of an annotation, or the string that it begins with.
 fn value(known: &Known, stack: &mut Stack, item: &Item) -> Result<bool, Memory>
-    ensures { IfOk result (λ ok. IsTaken (advance nesting known.now Symbol.Value item.now stack.old) known.now known.now stack.new ok) }
+    ensures { IfOk result (λ ok.
+        IsTaken (advance nesting known.now Symbol.Value item.now stack.old) known.now known.now
+        stack.new ok) }
 {
     if let Item::Quoted = item {
         stack.push(Symbol::QuotedEnd)?;
@@ -204,7 +226,9 @@ fn value(known: &Known, stack: &mut Stack, item: &Item) -> Result<bool, Memory>
 
 /// Takes what follows the string of a value.
 fn quoted_end(known: &Known, stack: &mut Stack, item: &Item) -> Result<bool, Memory>
-    ensures { IfOk result (λ ok. IsTaken (advance nesting known.now Symbol.QuotedEnd item.now stack.old) known.now known.now stack.new ok) }
+    ensures { IfOk result (λ ok.
+        IsTaken (advance nesting known.now Symbol.QuotedEnd item.now stack.old) known.now known.now
+        stack.new ok) }
 {
     match item {
         Item::Closing => Ok(true),
@@ -223,7 +247,8 @@ fn quoted_end(known: &Known, stack: &mut Stack, item: &Item) -> Result<bool, Mem
 
 /// Hands an expression to the operands that are wanted first.
 fn give(known: &Known, stack: &mut Stack, expression: Expr) -> Result<bool, Memory>
-    ensures { IfOk result (λ ok. IsTaken (given known.now expression stack.old) known.now known.now stack.new ok) }
+    ensures { IfOk result (λ ok.
+        IsTaken (given known.now expression stack.old) known.now known.now stack.new ok) }
 {
     let Some(Symbol::Inside(mut frame)) = stack.pop() else {
         return Ok(false);
@@ -235,7 +260,9 @@ fn give(known: &Known, stack: &mut Stack, expression: Expr) -> Result<bool, Memo
 
 /// Takes the parenthesis behind operands, if they are as many as their form has.
 fn close(alloc: Global, known: &mut Known, stack: &mut Stack, frame: Frame) -> Result<bool, Memory>
-    ensures { IfOk result (λ ok. IsTaken (closed known.old (made_of frame.form frame.heads frame.parts) stack.old) known.old known.new stack.new ok) }
+    ensures { IfOk result (λ ok.
+        IsTaken (closed known.old (made_of frame.form frame.heads frame.parts) stack.old) known.old
+        known.new stack.new ok) }
 {
     match make(alloc, frame.form, frame.heads, frame.parts)? {
         None => Ok(false),
@@ -255,7 +282,9 @@ fn deepen(
     frame: Frame,
     form: ExprForm,
 ) -> Result<bool, Memory>
-    ensures { IfOk result (λ ok. IsTaken (deeper (wants_part_next frame) frame.nesting known.now form (Symbol.Inside frame ∷ stack.old)) known.now known.now stack.new ok) }
+    ensures { IfOk result (λ ok.
+        IsTaken (deeper (wants_part_next frame) frame.nesting known.now form
+        (Symbol.Inside frame ∷ stack.old)) known.now known.now stack.new ok) }
 {
     if !wants_part(
         frame.form,
@@ -282,7 +311,9 @@ fn head(
 ) -> Result<bool, Memory>
     requires classes { length known.old.classes < 2 ^ 32 - 1 }
     requires roles { length known.old.roles < 2 ^ 32 - 1 }
-    ensures { IfOk result (λ ok. wants_head_next frame ≡ true → IsTaken (operand_taken known.old frame stack.old (iri_of known.old item.now)) known.old known.new stack.new ok) }
+    ensures { IfOk result (λ ok. wants_head_next frame ≡ true
+        → IsTaken (operand_taken known.old frame stack.old (iri_of known.old item.now)) known.old
+        known.new stack.new ok) }
 {
     let found = if has_class_head(frame.form) {
         class_of(alloc, known, item)?
@@ -307,7 +338,9 @@ fn operand(
 ) -> Result<bool, Memory>
     requires classes { length known.old.classes < 2 ^ 32 - 1 }
     requires roles { length known.old.roles < 2 ^ 32 - 1 }
-    ensures { IfOk result (λ ok. IsTaken (operand_taken known.old frame stack.old (iri_of known.old item.now)) known.old known.new stack.new ok) }
+    ensures { IfOk result (λ ok.
+        IsTaken (operand_taken known.old frame stack.old (iri_of known.old item.now)) known.old
+        known.new stack.new ok) }
 {
     let heads = frame.heads.items().len();
     let parts = frame.parts.items().len();
@@ -335,7 +368,9 @@ fn inside(
 ) -> Result<bool, Memory>
     requires classes { length known.old.classes < 2 ^ 32 - 1 }
     requires roles { length known.old.roles < 2 ^ 32 - 1 }
-    ensures { IfOk result (λ ok. IsTaken (inside_taken known.old frame item.now stack.old) known.old known.new stack.new ok) }
+    ensures { IfOk result (λ ok.
+        IsTaken (inside_taken known.old frame item.now stack.old) known.old known.new stack.new
+        ok) }
 {
     match item {
         Item::Closing => close(alloc, known, stack, frame),
@@ -352,7 +387,9 @@ fn advance_plain(
     symbol: Symbol,
     item: &Item,
 ) -> Result<bool, Memory>
-    ensures { IfOk result (λ ok. is_plain symbol ≡ true → IsTaken (advance nesting known.now symbol item.now stack.old) known.now known.now stack.new ok) }
+    ensures { IfOk result (λ ok. is_plain symbol ≡ true
+        → IsTaken (advance nesting known.now symbol item.now stack.old) known.now known.now
+        stack.new ok) }
 {
     match symbol {
         Symbol::Iri => Ok(is_iri(known, item)),
@@ -398,7 +435,9 @@ pub(crate) fn advance(
 ) -> Result<bool, Memory>
     requires classes { length known.old.classes < 2 ^ 32 - 1 }
     requires roles { length known.old.roles < 2 ^ 32 - 1 }
-    ensures { IfOk result (λ ok. IsTaken (advance nesting known.old symbol item.now stack.old) known.old known.new stack.new ok) }
+    ensures { IfOk result (λ ok.
+        IsTaken (advance nesting known.old symbol item.now stack.old) known.old known.new stack.new
+        ok) }
 {
     match symbol {
         Symbol::Class => Ok(class_of(alloc, known, item)?.is_some()),

@@ -38,8 +38,10 @@ impl Reader {
 
     /// The bytes so far are followed by these. Linear in the piece, whatever came before.
     pub(crate) fn feed(&mut self, alloc: Global, piece: &[u8]) -> Result<(), Memory>
-        requires { (fed : List ℕ) × IsReading self.old fed × (length fed + length piece.now < 2 ^ 31) }
-        ensures { (fed : List ℕ) → IsReading self.old fed → OnOk result (IsReading self.new (fed ++ piece.now)) }
+        requires { (fed : List ℕ) × IsReading self.old fed
+            × (length fed + length piece.now < 2 ^ 31) }
+        ensures { (fed : List ℕ) → IsReading self.old fed
+            → OnOk result (IsReading self.new (fed ++ piece.now)) }
     {
         feed_lexer(&mut self.lexer, piece)?;
         take_tokens(alloc, &mut self.lexer, &mut self.parser)
@@ -65,7 +67,8 @@ impl Reader {
 fn feed_lexer(lexer: &mut Lexer, piece: &[u8]) -> Result<(), Memory>
     requires open { lexer.old.closed ≡ false }
     requires room { lexer.old.place + length piece.now < 2 ^ 64 }
-    ensures lexing { (fed : List ℕ) (taken : List Token) → IsLexing lexer.old fed taken → OnOk result (IsLexing lexer.new (fed ++ piece.now) taken) }
+    ensures lexing { (fed : List ℕ) (taken : List Token) → IsLexing lexer.old fed taken
+        → OnOk result (IsLexing lexer.new (fed ++ piece.now) taken) }
     ensures open { lexer.new.closed ≡ false }
     ensures place { lexer.new.place ≤ lexer.old.place + length piece.now }
 {
@@ -79,8 +82,10 @@ fn feed_lexer(lexer: &mut Lexer, piece: &[u8]) -> Result<(), Memory>
 /// Closes a lexer. What ends the items of the text, with its place.
 fn close_lexer(lexer: &mut Lexer) -> Result<(Item, u64), Memory>
     requires { lexer.old.closed ≡ false }
-    ensures lexing { (fed : List ℕ) (taken : List Token) → IsLexing lexer.old fed taken → OnOk result (IsLexing lexer.new fed taken) }
-    ensures last { (fed : List ℕ) (taken : List Token) → IsLexing lexer.old fed taken → IfOk result (IsLast lexer.new.fault (length fed)) }
+    ensures lexing { (fed : List ℕ) (taken : List Token) → IsLexing lexer.old fed taken
+        → OnOk result (IsLexing lexer.new fed taken) }
+    ensures last { (fed : List ℕ) (taken : List Token) → IsLexing lexer.old fed taken
+        → IfOk result (IsLast lexer.new.fault (length fed)) }
     ensures closed { lexer.new.closed ≡ true }
 {
     let length = lexer.place();
@@ -94,8 +99,10 @@ fn close_lexer(lexer: &mut Lexer) -> Result<(Item, u64), Memory>
 /// The text has ended: takes the tokens that are left, and what ends its items. Linear in them.
 fn take_last(alloc: Global, mut lexer: Lexer, parser: &mut Parser) -> Result<(), Memory>
     requires open { lexer.closed ≡ false }
-    requires few { (fed : List ℕ) × (taken : List Token) × Takes lexer parser.old fed taken × (length fed < 2 ^ 31) }
-    ensures { (fed : List ℕ) (taken : List Token) → Takes lexer parser.old fed taken → OnOk result (TakesText parser.new fed) }
+    requires few { (fed : List ℕ) × (taken : List Token) × Takes lexer parser.old fed taken
+        × (length fed < 2 ^ 31) }
+    ensures { (fed : List ℕ) (taken : List Token) → Takes lexer parser.old fed taken
+        → OnOk result (TakesText parser.new fed) }
 {
     let (last, place) = close_lexer(&mut lexer)?;
     take_tokens(alloc, &mut lexer, parser)?;
@@ -105,8 +112,10 @@ fn take_last(alloc: Global, mut lexer: Lexer, parser: &mut Parser) -> Result<(),
 
 /// Takes the tokens that have ended, one after another. Linear in them.
 fn take_tokens(alloc: Global, lexer: &mut Lexer, parser: &mut Parser) -> Result<(), Memory>
-    requires { (fed : List ℕ) × (taken : List Token) × Takes lexer.old parser.old fed taken × (length fed < 2 ^ 31) }
-    ensures all { (fed : List ℕ) (taken : List Token) → Takes lexer.old parser.old fed taken → OnOk result (TakesAll lexer.new parser.new fed) }
+    requires { (fed : List ℕ) × (taken : List Token) × Takes lexer.old parser.old fed taken
+        × (length fed < 2 ^ 31) }
+    ensures all { (fed : List ℕ) (taken : List Token) → Takes lexer.old parser.old fed taken
+        → OnOk result (TakesAll lexer.new parser.new fed) }
     ensures closed { lexer.new.closed ≡ lexer.old.closed }
     ensures fault { lexer.new.fault ≡ lexer.old.fault }
     ensures place { lexer.new.place ≡ lexer.old.place }
@@ -119,7 +128,8 @@ fn take_tokens(alloc: Global, lexer: &mut Lexer, parser: &mut Parser) -> Result<
 
 /// Takes the next item, which stands at this place of the text, unless the parser has stopped.
 fn take_item(alloc: Global, parser: &mut Parser, item: Item, place: u64) -> Result<(), Memory>
-    requires { (items : List PlacedItem) × (standing parser.old ≡ fold stand_after started items) × (length items < 2 ^ 31) }
+    requires { (items : List PlacedItem) × (standing parser.old ≡ fold stand_after started items)
+        × (length items < 2 ^ 31) }
     ensures { OnOk result (standing parser.new ≡ stand_after (standing parser.old) (item, place)) }
 {
     if parser.stopped.is_some() {

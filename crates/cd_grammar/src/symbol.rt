@@ -115,7 +115,8 @@ impl Stack {
 
     /// What is wanted next, which is wanted no more. Constant time.
     pub(crate) fn pop(&mut self) -> Option<Symbol>
-        ensures { MatchOption result ((self.old ≡ []) × (self.new ≡ [])) (λ symbol. self.old ≡ symbol ∷ self.new) }
+        ensures { MatchOption result ((self.old ≡ []) × (self.new ≡ []))
+            (λ symbol. self.old ≡ symbol ∷ self.new) }
     {
         self.symbols.pop()
     }

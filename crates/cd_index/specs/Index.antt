@@ -33,7 +33,8 @@ numbers_with axioms atom = numbers_where axioms (λ k. has atom (left_of axioms 
 
 -- the number is the last of these
 abbrev pub ends_with : List ℕ → ℕ → Bool
-ends_with numbers n = nat_lt 0 (length numbers) && slice_index_or numbers (length numbers - 1) 0 == n
+ends_with numbers n = nat_lt 0 (length numbers) && slice_index_or numbers (length numbers - 1) 0
+    == n
 
 -- those with this `atom`
 abbrev pub at_atom : List Triple → ℕ → List Triple
@@ -46,7 +47,8 @@ is_filed axioms chosen atom k = not (is_free axioms k) && chosen k == atom
 -- the lists file each axiom with a left side under the one atom that is chosen from it
 pub record IsFiling (axioms : List Conj) (atoms : ℕ) (filed : List (List ℕ)) : Type 0 where
   pub chosen : ℕ → ℕ
-  pub stands : (k : ℕ) → k < length axioms → left_of axioms k ≢ [] → IsTrue (has (chosen k) (left_of axioms k))
+  pub stands : (k : ℕ) → k < length axioms → left_of axioms k ≢ []
+      → IsTrue (has (chosen k) (left_of axioms k))
   pub exact : AreLists atoms filed (λ atom. numbers_where axioms (is_filed axioms chosen atom))
 
 -- An index as contracts see it.
@@ -57,7 +59,8 @@ pub record Indexed : Type 0 where
   pub filed : List (List ℕ)
 
 -- these are the lists of the axioms
-pub record IsIndexOf (normal : Normal) (above : List (List ℕ)) (free : List ℕ) (with_left filed : List (List ℕ)) (gives backs alls : List (List Triple)) : Type 0 where
+pub record IsIndexOf (normal : Normal) (above : List (List ℕ)) (free : List ℕ)
+    (with_left filed : List (List ℕ)) (gives backs alls : List (List Triple)) : Type 0 where
   pub under : IsClosureOf above normal.roles normal.n5
   pub empty_left : free ≡ free_numbers normal.n1
   pub left : AreLists normal.atoms with_left (numbers_with normal.n1)

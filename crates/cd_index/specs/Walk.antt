@@ -4,7 +4,8 @@ use Rattle.cd_base.specs.declared.normal.RolePair.{RolePair}
 
 -- the higher roles of the pairs whose lower role is r
 abbrev pub told_above : List RolePair → ℕ → List ℕ
-told_above pairs r = map (λ (p : RolePair). p.higher) (filter (λ (p : RolePair). p.lower == r) pairs)
+told_above pairs r = map (λ (p : RolePair). p.higher)
+    (filter (λ (p : RolePair). p.lower == r) pairs)
 
 -- every role in the lists has a list
 abbrev pub AreWithin : List (List ℕ) → Type 0

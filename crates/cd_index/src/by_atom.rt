@@ -42,7 +42,9 @@ pub(crate) fn numbers_by_atom(
 fn note(lists: &mut Vec<Seq<usize>>, atoms: &[Atom], number: usize) -> Result<(), Memory>
     requires within { IsTrue (are_below (length lists.old.items) atoms.now) }
     requires earlier { All (λ list. All (λ k. k < number) list) lists.old.items }
-    ensures { IfOk result (λ _. AreLists (length lists.old.items) lists.new.items (λ a. slice_index_or lists.old.items a [] ++ (if has a atoms.now then number ∷ [] else []))) }
+    ensures { IfOk result (λ _. AreLists (length lists.old.items) lists.new.items
+        (λ a. slice_index_or lists.old.items a []
+        ++ (if has a atoms.now then number ∷ [] else []))) }
 {
     for atom in atoms {
         push_once(&mut lists[atom.0 as usize], number)?;
@@ -52,7 +54,8 @@ fn note(lists: &mut Vec<Seq<usize>>, atoms: &[Atom], number: usize) -> Result<()
 
 /// Puts the number at the end of the list, unless it stands there. Constant time, but for growing the list.
 fn push_once(list: &mut Seq<usize>, number: usize) -> Result<(), Memory>
-    ensures { OnOk result (list.new ≡ (if ends_with list.old number then list.old else list.old ++ number ∷ [])) }
+    ensures { OnOk result (list.new
+        ≡ (if ends_with list.old number then list.old else list.old ++ number ∷ [])) }
 {
     if !ends_with(list.items(), number) {
         list.push(number)?;

@@ -32,7 +32,9 @@ impl Model for Index {
 
     ghost view = { λ index. record { normal = index.normal; filed = index.filed } };
 
-    ghost invariant = { λ index. IsIndexOf index.normal index.closure index.free index.with_left index.filed index.gives index.backs index.alls };
+    ghost invariant = { λ index.
+        IsIndexOf index.normal index.closure index.free index.with_left index.filed index.gives
+        index.backs index.alls };
 }
 
 impl Index {

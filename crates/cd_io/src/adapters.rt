@@ -45,7 +45,8 @@ impl<R: Read> Source for ReadSource<R> {
     /// One read of the reader's.
     fn read(&mut self, buf: &mut [u8]) -> Result<usize, Failed>
         ensures bound { ReadsAtMost result buf.new }
-        ensures bytes { ReadConsumes (R.remaining (source_reader self.old)) (R.remaining (source_reader self.new)) result buf.new }
+        ensures bytes { ReadConsumes (R.remaining (source_reader self.old))
+            (R.remaining (source_reader self.new)) result buf.new }
         ensures after { KeepsAtOk (Some []) (Some []) result }
         ensures ended { TellsEnd buf.new result (source_ended self.new) }
         ensures ended_stays { KeepsEnd buf.new (source_ended self.old) (source_ended self.new) }
@@ -106,7 +107,8 @@ impl<W: Write> Sink for WriteSink<W> {
     fn write(&mut self, piece: &[u8]) -> Result<usize, Failed>
         ensures bound { ReadsAtMost result piece.now }
         ensures some { TakesSome piece.now result }
-        ensures bytes { WriteAppends (W.contents (sink_writer self.old)) (W.contents (sink_writer self.new)) result piece.now }
+        ensures bytes { WriteAppends (W.contents (sink_writer self.old))
+            (W.contents (sink_writer self.new)) result piece.now }
         ensures finished { sink_finished self.new ≡ false }
         ensures cause { HasCause (sink_faults self.old) (sink_faults self.new) result }
 
@@ -125,8 +127,10 @@ impl<W: Write> Sink for WriteSink<W> {
 
     /// One flush of the writer's.
     fn finish(&mut self) -> Result<(), Failed>
-        ensures bytes { Keeps (W.contents (sink_writer self.old)) (W.contents (sink_writer self.new)) }
-        ensures finished { sink_finished self.new ≡ (if is_ok result then true else sink_finished self.old) }
+        ensures bytes { Keeps (W.contents (sink_writer self.old))
+            (W.contents (sink_writer self.new)) }
+        ensures finished { sink_finished self.new
+            ≡ (if is_ok result then true else sink_finished self.old) }
         ensures cause { HasCause (sink_faults self.old) (sink_faults self.new) result }
 
         // It counts each failure of the writer's, and nothing else.

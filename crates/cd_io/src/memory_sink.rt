@@ -86,13 +86,17 @@ impl Sink for MemSink {
     fn write(&mut self, piece: &[u8]) -> Result<usize, Failed>
         ensures bound { ReadsAtMost result piece.now }
         ensures some { TakesSome piece.now result }
-        ensures bytes { WriteAppends (Some self.old.written) (Some self.new.written) result piece.now }
+        ensures bytes { WriteAppends (Some self.old.written)
+            (Some self.new.written) result piece.now }
         ensures finished { self.new.finished ≡ false }
         ensures cause { HasCause self.old.faults self.new.faults result }
 
         // It fails exactly as it was told or when the room is full, and else takes as much as fits.
-        ensures fails { IsErr result ↔ (Contains self.old.fails self.old.calls ⊎ (length self.old.written ≡ self.old.room)) }
-        ensures takes { IfOk result (λ n. n ≡ min (length piece.now) (min self.old.piece (self.old.room - length self.old.written))) }
+        ensures fails { IsErr result
+            ↔ (Contains self.old.fails self.old.calls ⊎ (length self.old.written ≡ self.old.room)) }
+        ensures takes { IfOk result (λ n. n
+            ≡ min (length piece.now) (min self.old.piece
+            (self.old.room - length self.old.written))) }
 
         // It counts each call and each failure, and stays told as it was.
         ensures counted { self.new.calls ≡ raised self.old.calls }

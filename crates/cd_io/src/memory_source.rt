@@ -96,7 +96,8 @@ impl Source for MemSource {
 
         // It fails exactly as it was told, and else gives as much as fits.
         ensures fails { IsErr result ↔ Contains self.old.fails self.old.calls }
-        ensures gives { IfOk result (λ n. n ≡ min (length buf.old) (min self.old.piece (length self.old.left))) }
+        ensures gives { IfOk result (λ n. n
+            ≡ min (length buf.old) (min self.old.piece (length self.old.left))) }
         ensures rest_of_buffer { IfOk result (λ n. drop n buf.new ≡ drop n buf.old) }
         ensures buffer_at_fault { OnErr result (buf.new ≡ buf.old) }
 

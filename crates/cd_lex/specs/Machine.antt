@@ -30,7 +30,8 @@ pub record State : Type 0 where
   pub fault : Option LexFault
 
 abbrev pub start : State
-start = record { mode = Between; prefix = []; kept = []; from = 0; place = 0; tokens = []; closed = false; fault = None }
+start = record { mode = Between; prefix = []; kept = []; from = 0; place = 0; tokens = [];
+    closed = false; fault = None }
 
 -- what no move changes, not even one that runs out of memory
 abbrev pub IsBeside : State → State → Type 0
@@ -56,7 +57,8 @@ without_prefix s = record s { prefix = [] }
 
 -- the unfinished token has ended and is this
 abbrev pub end : Kind → State → State
-end kind s = record s { mode = Between; tokens = s.tokens ++ record { kind = kind; place = s.from } ∷ [] }
+end kind s = record s { mode = Between;
+    tokens = s.tokens ++ record { kind = kind; place = s.from } ∷ [] }
 
 -- what was begun is the front of no token
 abbrev pub refuse : State → State
@@ -123,7 +125,8 @@ unfoldable pub take_in_comment : ℕ → State → State
 take_in_comment b s = if ends_line b then take_between b s else s
 
 unfoldable pub take_in_word : ℕ → State → State
-take_in_word b s = if b == 58 then take_colon s else (if is_name_byte b then keep b s else take_between b (end_word s))
+take_in_word b s = if b == 58 then take_colon
+    s else (if is_name_byte b then keep b s else take_between b (end_word s))
 
 unfoldable pub take_in_local : ℕ → State → State
 take_in_local b s = if is_name_byte b then keep b s else take_between b (end_short s)
@@ -137,7 +140,8 @@ is_empty (b ∷ more) = false
 
 unfoldable pub take_in_iri : ℕ → State → State
 take_in_iri b s =
-    if is_iri_byte b then keep b s else (if is_empty s.kept then refuse s else (if b == 62 then end_iri s else refuse s))
+    if is_iri_byte b then keep b
+        s else (if is_empty s.kept then refuse s else (if b == 62 then end_iri s else refuse s))
 
 unfoldable pub take_in_text : ℕ → State → State
 take_in_text b s = if b == 34 then end Quoted s else (if b == 92 then turn AfterBackslash s else s)

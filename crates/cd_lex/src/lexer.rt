@@ -27,8 +27,10 @@ impl Lexer {
     pub fn feed(&mut self, piece: &[u8]) -> Result<(), LexFault>
         requires open { self.old.closed ≡ false }
         requires room { self.old.place + length piece.now < 2 ^ 64 }
-        ensures fed { (fed : List ℕ) (taken : List Token) → IsLexing self.old fed taken → IsFed result self.new (fed ++ piece.now) taken }
-        ensures refused { (fed : List ℕ) (taken : List Token) (n : ℕ) → IsLexing self.old fed taken → ShowsBad (fed ++ piece.now) n
+        ensures fed { (fed : List ℕ) (taken : List Token) → IsLexing self.old fed taken
+            → IsFed result self.new (fed ++ piece.now) taken }
+        ensures refused { (fed : List ℕ) (taken : List Token) (n : ℕ) → IsLexing self.old fed taken
+            → ShowsBad (fed ++ piece.now) n
             → (result ≡ Err (LexFault.BadByte n)) ⊎ (result ≡ Err LexFault.Memory) }
         ensures answer { result ≡ answer_of self.new.fault }
         ensures again { IfSome self.old.fault (λ fault. result ≡ Err fault) }
@@ -43,7 +45,8 @@ impl Lexer {
     ///
     /// `BadByte(n)` comes exactly where a string, a full IRI, a single `^` or a bare `@` at place `n` is not ended, or was answered before.
     pub fn close(&mut self) -> Result<(), LexFault>
-        ensures ended { (fed : List ℕ) (taken : List Token) → IsLexing self.old fed taken → IsClosed result self.new fed taken }
+        ensures ended { (fed : List ℕ) (taken : List Token) → IsLexing self.old fed taken
+            → IsClosed result self.new fed taken }
         ensures answer { result ≡ answer_of self.new.fault }
         ensures again { IfSome self.old.fault (λ fault. result ≡ Err fault) }
         ensures closed { self.new.closed ≡ true }
@@ -55,7 +58,8 @@ impl Lexer {
     /// The next token. `None` exactly where the bytes fed so far end no further token. A name or a language tag is ended by one more byte
     /// or by `close`. Constant time.
     pub fn take_token(&mut self) -> Option<Token>
-        ensures taken { (fed : List ℕ) (taken : List Token) → IsLexing self.old fed taken → IsTaken result self.old self.new fed taken }
+        ensures taken { (fed : List ℕ) (taken : List Token) → IsLexing self.old fed taken
+            → IsTaken result self.old self.new fed taken }
         ensures first { IsPopped result self.old self.new }
         ensures closed { self.new.closed ≡ self.old.closed }
         ensures fault { self.new.fault ≡ self.old.fault }

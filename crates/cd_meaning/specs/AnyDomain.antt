@@ -21,8 +21,10 @@ pub record Structure (D : Type 0) : Type 0 where
   pub meet : (parts : List Expr) (x : D) → has (Meet parts) x ≡ list_all (λ part. has part x) parts
   pub join : (parts : List Expr) (x : D) → has (Join parts) x ≡ list_any (λ part. has part x) parts
   pub minus : (part : Expr) (x : D) → has (Minus part) x ≡ not (has part x)
-  pub some : (r : ℕ) (part : Expr) (x : D) → IsTrue (has (SomeOf r part) x) ↔ ((y : D) × IsTrue (edge r x y) × IsTrue (has part y))
-  pub all : (r : ℕ) (part : Expr) (x : D) → IsTrue (has (AllOf r part) x) ↔ ((y : D) → IsTrue (edge r x y) → IsTrue (has part y))
+  pub some : (r : ℕ) (part : Expr) (x : D) → IsTrue (has (SomeOf r part) x)
+      ↔ ((y : D) × IsTrue (edge r x y) × IsTrue (has part y))
+  pub all : (r : ℕ) (part : Expr) (x : D) → IsTrue (has (AllOf r part) x)
+      ↔ ((y : D) → IsTrue (edge r x y) → IsTrue (has part y))
 
 module _ {D : Type 0} (s : Structure D) where
   -- every element of c is one of d
@@ -50,7 +52,8 @@ module _ {D : Type 0} (s : Structure D) where
   HoldsOver (SubClass c d) = IsBelowOver c d
   HoldsOver (SameClasses l) = EveryTwo HasSameMembersOver l
   HoldsOver (Disjoint l) = EveryTwo IsDistinctlyApartOver l
-  HoldsOver (DisjointUnion a l) = HasSameMembersOver (Name a) (Join l) × EveryTwo IsDistinctlyApartOver l
+  HoldsOver (DisjointUnion a l) =
+      HasSameMembersOver (Name a) (Join l) × EveryTwo IsDistinctlyApartOver l
   HoldsOver (SubRole r t) = IsSubRoleOver r t
   HoldsOver (SameRoles l) = EveryTwo HasSameEdgesOver l
   HoldsOver (Domain r c) = (x y : D) → IsTrue (s.edge r x y) → IsTrue (s.has c x)
@@ -58,7 +61,8 @@ module _ {D : Type 0} (s : Structure D) where
 
 -- in every structure over D in which the axioms hold every element of class a is one of class b
 abbrev pub EntailsOver : Type 0 → List Axiom → ℕ → ℕ → Type 0
-EntailsOver D axioms a b = (s : Structure D) → All (HoldsOver s) axioms → IsBelowOver s (Name a) (Name b)
+EntailsOver D axioms a b = (s : Structure D) → All (HoldsOver s) axioms
+    → IsBelowOver s (Name a) (Name b)
 
 -- the elements of a domain of n
 abbrev pub Elements : ℕ → Type 0
@@ -67,7 +71,8 @@ Elements n = (x : ℕ) × (x < n)
 -- axioms entail over finite interpretations exactly what they entail over this domain, finite or not, and over every finite one
 abbrev pub FiniteIsEnough : Type 0 → Type 0
 FiniteIsEnough D = (axioms : List Axiom) (a b : ℕ)
-    → Entails axioms a b ↔ (EntailsOver D axioms a b × ((n : ℕ) → EntailsOver (Elements n) axioms a b))
+    → Entails axioms a b ↔ (EntailsOver D axioms a b
+    × ((n : ℕ) → EntailsOver (Elements n) axioms a b))
 
 -- a finite interpretation as a structure over its elements: the same are in each expression, each role has the same edges, and the same
 -- axioms hold

@@ -36,10 +36,14 @@ in_atom i a x = list_any (λ m. m.class == a && m.element == x) i.classes
 
 -- the axiom is true in the interpretation
 abbrev pub HoldsNormal : Interpretation → NormalAxiom → Type 0
-HoldsNormal i (n1 c) = (x : ℕ) → x < i.size → list_all (λ a. in_atom i a x) c.left ≡ true → list_any (λ a. in_atom i a x) c.right ≡ true
-HoldsNormal i (n2 t) = (x : ℕ) → x < i.size → in_atom i t.atom x ≡ true → (y : ℕ) × (has_edge i t.role x y ≡ true) × (in_atom i t.other y ≡ true)
-HoldsNormal i (n3 t) = (x y : ℕ) → has_edge i t.role x y ≡ true → in_atom i t.atom y ≡ true → in_atom i t.other x ≡ true
-HoldsNormal i (n4 t) = (x y : ℕ) → has_edge i t.role x y ≡ true → in_atom i t.atom x ≡ true → in_atom i t.other y ≡ true
+HoldsNormal i (n1 c) = (x : ℕ) → x < i.size → list_all (λ a. in_atom i a x) c.left ≡ true
+    → list_any (λ a. in_atom i a x) c.right ≡ true
+HoldsNormal i (n2 t) = (x : ℕ) → x < i.size → in_atom i t.atom x ≡ true
+    → (y : ℕ) × (has_edge i t.role x y ≡ true) × (in_atom i t.other y ≡ true)
+HoldsNormal i (n3 t) = (x y : ℕ) → has_edge i t.role x y ≡ true → in_atom i t.atom y ≡ true
+    → in_atom i t.other x ≡ true
+HoldsNormal i (n4 t) = (x y : ℕ) → has_edge i t.role x y ≡ true → in_atom i t.atom x ≡ true
+    → in_atom i t.other y ≡ true
 HoldsNormal i (n5 p) = (x y : ℕ) → has_edge i p.lower x y ≡ true → has_edge i p.higher x y ≡ true
 
 -- each of the axioms is true in the interpretation

@@ -69,7 +69,8 @@ pair c x = record { class = c; element = x }
 
 -- Ann and Bob are persons, Ann a parent and Bob a child. That owl:Nothing is listed with Ann changes nothing
 abbrev pub pairs : List Member
-pairs = pair person_class ann ∷ pair person_class bob ∷ pair parent_class ann ∷ pair child_class bob ∷ pair 1 ann ∷ []
+pairs = pair person_class ann ∷ pair person_class bob ∷ pair parent_class ann
+    ∷ pair child_class bob ∷ pair 1 ann ∷ []
 
 -- the role goes from the first element to the second
 abbrev pub edge : ℕ → ℕ → ℕ → Edge
@@ -80,8 +81,10 @@ abbrev pub edges : List Edge
 edges = edge has_child ann bob ∷ edge has_kid ann bob ∷ edge knows ann bob ∷ edge knows bob ann ∷ []
 
 -- what a test says of each is an element
-pub all_elements : {X : Type 0} (f : X → ℕ) (xs : List X) → list_all (λ x. nat_lt (f x) 2) xs ≡ true → All (λ x. f x < 2) xs
-all_elements f xs h = all_from_member (λ x. f x < 2) xs (λ x m. ltb-true (f x) 2 (all_member (λ x. nat_lt (f x) 2) xs h x m))
+pub all_elements : {X : Type 0} (f : X → ℕ) (xs : List X)
+    → list_all (λ x. nat_lt (f x) 2) xs ≡ true → All (λ x. f x < 2) xs
+all_elements f xs h = all_from_member (λ x. f x < 2) xs
+    (λ x m. ltb-true (f x) 2 (all_member (λ x. nat_lt (f x) 2) xs h x m))
 
 -- the interpretation of the two
 abbrev pub family : Interpretation

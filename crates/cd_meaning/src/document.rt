@@ -20,7 +20,8 @@ pub struct Document {
     pub axioms: Seq<Axiom>,
     pub classes: Seq<Seq<u8>>,
     pub roles: Seq<Seq<u8>>,
-    pub ghost numbered: { IsTrue (list_all (has_numbers_below (length classes) (length roles)) axioms) },
+    pub ghost numbered: { IsTrue
+        (list_all (has_numbers_below (length classes) (length roles)) axioms) },
     pub ghost few_classes: { length classes < 2 ^ 32 },
     pub ghost few_roles: { length roles < 2 ^ 32 },
     pub ghost reserved: { take 2 classes ≡ reserved_classes },

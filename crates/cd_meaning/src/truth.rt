@@ -86,7 +86,8 @@ fn are_pairwise_disjoint(i: &Interpretation, operands: &[Expr]) -> bool
 
 /// Calls `is_distinctly_apart` for each operand.
 fn is_apart_from_each(i: &Interpretation, first: &Expr, operands: &[Expr]) -> bool
-    ensures { IsTrue result ↔ All (λ operand. IsDistinctlyApart i.now first.now operand) operands.now }
+    ensures { IsTrue result ↔ All (λ operand. IsDistinctlyApart i.now first.now operand)
+        operands.now }
 {
     for operand in operands {
         if !is_distinctly_apart(i, first, operand) {
@@ -174,7 +175,8 @@ fn is_sub_role(i: &Interpretation, lower: u32, upper: u32) -> bool
 
 /// Whether those of the edges that are the lower role's are the upper one's too. Goes over the interpretation's edges for each of them.
 fn are_edges_of(i: &Interpretation, edges: &[Edge], lower: u32, upper: u32) -> bool
-    ensures { IsTrue result ↔ All (λ edge. edge.role ≡ lower → IsTrue (has_edge i.now upper edge.source edge.target)) edges.now }
+    ensures { IsTrue result ↔ All (λ edge. edge.role ≡ lower
+        → IsTrue (has_edge i.now upper edge.source edge.target)) edges.now }
 {
     for edge in edges {
         if !is_edge_of(i, *edge, lower, upper) {
@@ -186,7 +188,8 @@ fn are_edges_of(i: &Interpretation, edges: &[Edge], lower: u32, upper: u32) -> b
 
 /// Linear in the interpretation's edges.
 fn is_edge_of(i: &Interpretation, edge: Edge, lower: u32, upper: u32) -> bool
-    ensures { IsTrue result ↔ (edge.role ≡ lower → IsTrue (has_edge i.now upper edge.source edge.target)) }
+    ensures { IsTrue result ↔ (edge.role ≡ lower
+        → IsTrue (has_edge i.now upper edge.source edge.target)) }
 {
     edge.role != lower || has_edge(i, upper, edge.source, edge.target)
 }
@@ -213,7 +216,8 @@ fn has_domain(i: &Interpretation, role: u32, class: &Expr) -> bool
 /// Whether those of the edges that are the role's come from the class. Calls `is_in` for each of these.
 fn are_sources_in(i: &Interpretation, edges: &[Edge], role: u32, class: &Expr) -> bool
     requires { All (λ edge. edge.source < i.now.size) edges.now }
-    ensures { IsTrue result ↔ All (λ edge. edge.role ≡ role → IsTrue (member i.now class.now edge.source)) edges.now }
+    ensures { IsTrue result ↔ All (λ edge. edge.role ≡ role
+        → IsTrue (member i.now class.now edge.source)) edges.now }
 {
     for edge in edges {
         if !is_source_in(i, *edge, role, class) {
@@ -241,7 +245,8 @@ fn has_range(i: &Interpretation, role: u32, class: &Expr) -> bool
 /// Whether those of the edges that are the role's lead into the class. Calls `is_in` for each of these.
 fn are_targets_in(i: &Interpretation, edges: &[Edge], role: u32, class: &Expr) -> bool
     requires { All (λ edge. edge.target < i.now.size) edges.now }
-    ensures { IsTrue result ↔ All (λ edge. edge.role ≡ role → IsTrue (member i.now class.now edge.target)) edges.now }
+    ensures { IsTrue result ↔ All (λ edge. edge.role ≡ role
+        → IsTrue (member i.now class.now edge.target)) edges.now }
 {
     for edge in edges {
         if !is_target_in(i, *edge, role, class) {

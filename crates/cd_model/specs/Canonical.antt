@@ -31,13 +31,16 @@ is_within (x ∷ xs) ys = has_number ys x && is_within xs ys
 -- an element's rank in the total order, compared in dictionary order: `least` is least, the other named atoms follow by number, then the
 -- other atoms, then the existentials
 abbrev pub total_rank : Normal → ℕ → Elem → List ℕ
-total_rank n least (Plain a) = cond (is_named n a) (cond (eqb a least) (0 ∷ []) (0 ∷ a ∷ [])) (1 ∷ a ∷ [])
+total_rank n least (Plain a) =
+    cond (is_named n a) (cond (eqb a least) (0 ∷ []) (0 ∷ a ∷ [])) (1 ∷ a ∷ [])
 total_rank n least (Exist r k) = 2 ∷ r ∷ k
 
 -- puts an element into a list that goes from the greatest down
 abbrev pub insert_down : Normal → ℕ → Elem → List Elem → List Elem
 insert_down n least e [] = e ∷ []
-insert_down n least e (f ∷ fs) = cond (is_at_most (total_rank n least f) (total_rank n least e)) (e ∷ f ∷ fs) (f ∷ insert_down n least e fs)
+insert_down n least e (f ∷ fs) =
+    cond (is_at_most (total_rank n least f) (total_rank n least e)) (e ∷ f ∷ fs)
+    (f ∷ insert_down n least e fs)
 
 -- the elements of a clause from the greatest down
 abbrev pub descending : Normal → ℕ → List Elem → List Elem
@@ -58,7 +61,9 @@ abbrev pub elems_at_most : Normal → ℕ → List Elem → List Elem → Bool
 elems_at_most n least [] fs = true
 elems_at_most n least (e ∷ es) [] = false
 elems_at_most n least (e ∷ es) (f ∷ fs) =
-    cond (is_at_most (total_rank n least e) (total_rank n least f)) (cond (is_at_most (total_rank n least f) (total_rank n least e)) (elems_at_most n least es fs) true) false
+    cond (is_at_most (total_rank n least e) (total_rank n least f))
+        (cond (is_at_most (total_rank n least f) (total_rank n least e))
+        (elems_at_most n least es fs) true) false
 
 -- clauses are compared as lists of their elements from the greatest down
 abbrev pub clause_at_most : Normal → ℕ → List Elem → List Elem → Bool
@@ -87,7 +92,9 @@ has_one_of chosen (e ∷ es) = has_elem chosen e || has_one_of chosen es
 -- the clauses are gone through from the least: where none of a clause's elements is chosen yet, its greatest is
 abbrev pub choose : Normal → ℕ → List Elem → List (List Elem) → List Elem
 choose n least chosen [] = chosen
-choose n least chosen (c ∷ cs) = cond (has_one_of chosen c) (choose n least chosen cs) (choose n least (greatest n least c ∷ chosen) cs)
+choose n least chosen (c ∷ cs) =
+    cond (has_one_of chosen c) (choose n least chosen cs)
+    (choose n least (greatest n least c ∷ chosen) cs)
 
 -- the elements chosen in a context
 unfoldable pub chosen : Normal → ℕ → List (List Elem) → List Elem
@@ -103,7 +110,8 @@ has_empty ((e ∷ es) ∷ cs) = has_empty cs
 abbrev pub is_maximal : ℕ → List ℕ → List Elem → Bool
 is_maximal r k [] = true
 is_maximal r k (Plain a ∷ es) = is_maximal r k es
-is_maximal r k (Exist s l ∷ es) = (not (eqb r s) || (not (is_within k l) || is_within l k)) && is_maximal r k es
+is_maximal r k (Exist s l ∷ es) =
+    (not (eqb r s) || (not (is_within k l) || is_within l k)) && is_maximal r k es
 
 -- an element of the interpretation, and the context that it stands for
 pub record Element : Type 0 where
@@ -113,7 +121,9 @@ pub record Element : Type 0 where
 -- the elements: the keys whose contexts have no empty clause, numbered from `from`
 abbrev pub elements : (List ℕ → List (List Elem)) → ℕ → List (List ℕ) → List Element
 elements live from [] = []
-elements live from (k ∷ ks) = cond (has_empty (live k)) (elements live from ks) (record { number = from; key = k } ∷ elements live (suc from) ks)
+elements live from (k ∷ ks) =
+    cond (has_empty (live k)) (elements live from ks)
+    (record { number = from; key = k } ∷ elements live (suc from) ks)
 
 -- the numbers below this one
 abbrev pub numbers_below : ℕ → List ℕ
@@ -132,7 +142,8 @@ edges_by below roles all es x (Plain a) = []
 edges_by below roles all es x (Exist s k) =
     cond (is_maximal s k es)
     (collect (λ (y : Element). cond (same_numbers k y.key)
-    (collect (λ (r : ℕ). cond (below s r) (record { role = r; source = x; target = y.number } ∷ []) []) (numbers_below roles))
+    (collect (λ (r : ℕ). cond (below s r) (record { role = r; source = x; target = y.number }
+        ∷ []) []) (numbers_below roles))
     []) all)
     []
 
@@ -144,13 +155,16 @@ pub record Listing : Type 0 where
 
 -- The elements are the contexts without the empty clause. An element is in an atom that is chosen in its context. It has an edge of r to
 -- the context of K where, for some s under r, `some s.K` is chosen, and no chosen existential of s has a proper superset of K.
-unfoldable pub canonical : Normal → (ℕ → ℕ → Bool) → List (List ℕ) → (List ℕ → List (List Elem)) → ℕ → Listing
+unfoldable pub canonical : Normal → (ℕ → ℕ → Bool) → List (List ℕ) → (List ℕ → List (List Elem))
+    → ℕ → Listing
 canonical n below keys live least =
     let all : List Element = elements live 0 keys in
     record {
       size = length all;
       members = collect (λ (x : Element). atoms_at x.number (chosen n least (live x.key))) all;
-      edges = collect (λ (x : Element). collect (edges_by below n.roles all (chosen n least (live x.key)) x.number) (chosen n least (live x.key))) all;
+      edges = collect (λ (x : Element). collect
+          (edges_by below n.roles all (chosen n least (live x.key)) x.number)
+          (chosen n least (live x.key))) all;
     }
 
 -- the test is the role closure
@@ -176,12 +190,17 @@ pub record IsListed (i : Interpretation) (l : Listing) : Type 0 where
 
 -- The interpretation is a model of the normal axioms, and the element of {a} is in a. Where b is named, it is in b only where {b} is a
 -- live clause of {a}.
-pub record IsCounter (n : Normal) (i : Interpretation) (keys : List (List ℕ)) (live : List ℕ → List (List Elem)) (b : ℕ) : Type 0 where
+pub record IsCounter (n : Normal) (i : Interpretation) (keys : List (List ℕ))
+    (live : List ℕ → List (List Elem)) (b : ℕ) : Type 0 where
   pub holds : IsNormalModel n i
-  pub element : (a : ℕ) → Open keys live a → record { x : ℕ; below : x < i.size; isin : IsIn i a x; only_single : is_named n b ≡ true → IsIn i b x → IsSingle (live (plain a ∷ [])) b }
+  pub element : (a : ℕ) → Open keys live a
+      → record { x : ℕ; below : x < i.size; isin : IsIn i a x; only_single : is_named n b ≡ true
+      → IsIn i b x → IsSingle (live (plain a ∷ [])) b }
 
 -- COMPLETENESS: where some {a} is without the empty clause, the canonical interpretation of saturated contexts is a finite model of the
 -- normal axioms against each named b that is no live clause of its own in {a}
 abbrev pub Completeness : Type 0
-Completeness = (n : Normal) (below : ℕ → ℕ → Bool) → IsClosure n below → RolesInRange n → (keys : List (List ℕ)) (live : List ℕ → List (List Elem)) → Saturated n keys live → (a : ℕ) → Open keys live a → (b : ℕ)
+Completeness = (n : Normal) (below : ℕ → ℕ → Bool) → IsClosure n below → RolesInRange n
+    → (keys : List (List ℕ)) (live : List ℕ → List (List Elem)) → Saturated n keys live → (a : ℕ)
+    → Open keys live a → (b : ℕ)
     → (i : Interpretation) × IsListed i (canonical n below keys live b) × IsCounter n i keys live b

@@ -10,4 +10,5 @@ use Rattle.cd_model.specs.Meaning.{Meets, TrueClause}
 -- what is derived in the context of a key is true of each element that meets the key, in every model of the normal axioms
 abbrev pub Soundness : Type 0
 Soundness = (n : Normal) (key : List ℕ) (clause : List Elem) → Derived n key clause
-    → (i : Interpretation) → IsNormalModel n i → (x : ℕ) → x < i.size → Meets i x key → TrueClause i x clause
+    → (i : Interpretation) → IsNormalModel n i → (x : ℕ) → x < i.size → Meets i x key
+    → TrueClause i x clause

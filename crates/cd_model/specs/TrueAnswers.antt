@@ -11,8 +11,11 @@ use Rattle.cd_model.specs.Exactness.{NoneIn, AllIn}
 -- the class has no element in any model; or it has one in some, and the atoms ascend and are the named ones that have each of its elements in every model
 abbrev pub IsTrueAnswer : Normal → ℕ → Answer → Type 0
 IsTrueAnswer n a Unsatisfiable = NoneIn n a
-IsTrueAnswer n a (Of atoms) = (NoneIn n a → ⊥) × IsStrictlyIncreasing atoms × ((b : ℕ) → OneOf b atoms ↔ ((is_named n b ≡ true) × AllIn n a b))
+IsTrueAnswer n a (Of atoms) =
+    (NoneIn n a → ⊥) × IsStrictlyIncreasing atoms
+    × ((b : ℕ) → OneOf b atoms ↔ ((is_named n b ≡ true) × AllIn n a b))
 
 -- a class has one true answer
 abbrev pub OneTrueAnswer : Type 0
-OneTrueAnswer = (n : Normal) (a : ℕ) (x y : Answer) → IsTrueAnswer n a x → IsTrueAnswer n a y → x ≡ y
+OneTrueAnswer = (n : Normal) (a : ℕ) (x y : Answer) → IsTrueAnswer n a x → IsTrueAnswer n a y
+    → x ≡ y

@@ -40,7 +40,8 @@ impl Model for Prefixes {
 
     ghost Value = { Declared };
 
-    ghost view = { λ prefixes. map (λ entry. (entry.0.items, entry.1.items)) prefixes.iris.entries };
+    ghost view = { λ prefixes. map (λ entry. (entry.0.items, entry.1.items))
+        prefixes.iris.entries };
 }
 
 impl Prefixes {
@@ -65,7 +66,8 @@ impl Prefixes {
     /// Lets a prefix, with its colon, stand for an IRI. Nothing changes if it does so already. One look-up, and a second if the prefix
     /// is new, so linear in the bytes of both.
     pub fn declare(&mut self, alloc: Global, prefix: &[u8], iri: &[u8]) -> Result<(), DeclareFault>
-        ensures clash { IsErrOf result DeclareFault.Clash ↔ IsSomeAnd (meaning self.old prefix.now) (λ known. known ≢ iri.now) }
+        ensures clash { IsErrOf result DeclareFault.Clash
+            ↔ IsSomeAnd (meaning self.old prefix.now) (λ known. known ≢ iri.now) }
         ensures declared { OnOk result (self.new ≡ declare self.old prefix.now iri.now) }
         ensures unchanged { OnErr result (self.new ≡ self.old) }
     {
@@ -83,8 +85,11 @@ impl Prefixes {
     /// The full IRI of an abbreviated one: that of its prefix, which has its colon, and then `local`. One look-up, so linear in the
     /// bytes of the prefix and of the result.
     pub fn expand(&self, alloc: Global, prefix: &[u8], local: &[u8]) -> Result<Seq<u8>, ExpandFault>
-        ensures expanded { IfOk result (λ full. option_map (λ iri. iri ++ local.now) (meaning self.now prefix.now) ≡ Some full) }
-        ensures unknown { IsErrOf result ExpandFault.Unknown ↔ (meaning self.now prefix.now ≡ None) }
+        ensures expanded { IfOk result
+            (λ full. option_map (λ iri. iri ++ local.now) (meaning self.now prefix.now)
+            ≡ Some full) }
+        ensures unknown { IsErrOf result ExpandFault.Unknown
+            ↔ (meaning self.now prefix.now ≡ None) }
     {
         let Some(iri) = self.iri_of(prefix) else {
             return Err(ExpandFault::Unknown);

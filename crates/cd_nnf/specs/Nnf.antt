@@ -16,11 +16,17 @@ pub record Forms : Type 0 where
 -- both normal forms from those of the parts: under a complement intersection and union change places, and so do the two quantifiers
 abbrev pub forms_by_parts : Expr-F Forms → Forms
 forms_by_parts (Expr-F.Name c) = record { plain = Name c; negated = Minus (Name c) }
-forms_by_parts (Expr-F.Meet parts) = record { plain = Meet (map (λ part. part.plain) parts); negated = Join (map (λ part. part.negated) parts) }
-forms_by_parts (Expr-F.Join parts) = record { plain = Join (map (λ part. part.plain) parts); negated = Meet (map (λ part. part.negated) parts) }
+forms_by_parts (Expr-F.Meet parts) =
+    record { plain = Meet (map (λ part. part.plain) parts);
+    negated = Join (map (λ part. part.negated) parts) }
+forms_by_parts (Expr-F.Join parts) =
+    record { plain = Join (map (λ part. part.plain) parts);
+    negated = Meet (map (λ part. part.negated) parts) }
 forms_by_parts (Expr-F.Minus part) = record { plain = part.negated; negated = part.plain }
-forms_by_parts (Expr-F.SomeOf r part) = record { plain = SomeOf r part.plain; negated = AllOf r part.negated }
-forms_by_parts (Expr-F.AllOf r part) = record { plain = AllOf r part.plain; negated = SomeOf r part.negated }
+forms_by_parts (Expr-F.SomeOf r part) =
+    record { plain = SomeOf r part.plain; negated = AllOf r part.negated }
+forms_by_parts (Expr-F.AllOf r part) =
+    record { plain = AllOf r part.plain; negated = SomeOf r part.negated }
 
 -- both normal forms of an expression
 abbrev pub forms : Expr → Forms
@@ -42,8 +48,10 @@ pub record Shape : Type 0 where
 -- the shape of an expression from those of the parts
 abbrev pub shape_by_parts : Expr-F Shape → Shape
 shape_by_parts (Expr-F.Name c) = record { is_name = true; is_normal = true }
-shape_by_parts (Expr-F.Meet parts) = record { is_name = false; is_normal = list_all (λ part. part.is_normal) parts }
-shape_by_parts (Expr-F.Join parts) = record { is_name = false; is_normal = list_all (λ part. part.is_normal) parts }
+shape_by_parts (Expr-F.Meet parts) =
+    record { is_name = false; is_normal = list_all (λ part. part.is_normal) parts }
+shape_by_parts (Expr-F.Join parts) =
+    record { is_name = false; is_normal = list_all (λ part. part.is_normal) parts }
 shape_by_parts (Expr-F.Minus part) = record { is_name = false; is_normal = part.is_name }
 shape_by_parts (Expr-F.SomeOf r part) = record { is_name = false; is_normal = part.is_normal }
 shape_by_parts (Expr-F.AllOf r part) = record { is_name = false; is_normal = part.is_normal }
@@ -58,7 +66,8 @@ NnfHasTheMembers = (i : Interpretation) (e : Expr) (x : ℕ) → member i (nnf e
 
 -- the normal form of the complement has the other elements
 abbrev pub NnfNotHasTheOthers : Type 0
-NnfNotHasTheOthers = (i : Interpretation) (e : Expr) (x : ℕ) → member i (nnf_not e) x ≡ not (member i e x)
+NnfNotHasTheOthers = (i : Interpretation) (e : Expr) (x : ℕ)
+    → member i (nnf_not e) x ≡ not (member i e x)
 
 -- in both normal forms `Minus` stands before names alone
 abbrev pub NnfHasNamesUnderMinus : Type 0

@@ -40,10 +40,12 @@ IsMentioned a axs = (row : NormalAxiom) × OneOf row axs × Mentions a row
 
 -- each atom that came is mentioned, but for these, which are left to what uses them
 abbrev pub Mentioned : Maker → Maker → List ℕ → List NormalAxiom → Type 0
-Mentioned old new left axs = (a : ℕ) → old.next ≤ a → a < new.next → OneOf a left ⊎ IsMentioned a axs
+Mentioned old new left axs = (a : ℕ) → old.next ≤ a → a < new.next
+    → OneOf a left ⊎ IsMentioned a axs
 
 -- for every account of the fresh atoms so far there is one that goes on from it, and by it x is the pos or neg of e
-pub record Made (classes : ℕ) (old new : Maker) (labels : List Label) (sign : Bool) (e : Expr) (x : ℕ) : Type 0 where
+pub record Made (classes : ℕ) (old new : Maker) (labels : List Label) (sign : Bool) (e : Expr)
+    (x : ℕ) : Type 0 where
   pub after : List Label
   pub grows : (a : ℕ) (k : Label) → IsFresh classes labels a k → IsFresh classes after a k
   pub count : classes + length after ≡ new.next
@@ -54,9 +56,11 @@ pub record Made (classes : ℕ) (old new : Maker) (labels : List Label) (sign : 
   pub mentioned : Mentioned old new (x ∷ []) axs
 
 abbrev pub IsUse : ℕ → Maker → Maker → Bool → Expr → ℕ → Type 0
-IsUse classes old new sign e x = (labels : List Label) → classes + length labels ≡ old.next → Made classes old new labels sign e x
+IsUse classes old new sign e x = (labels : List Label) → classes + length labels ≡ old.next
+    → Made classes old new labels sign e x
 
-pub record MadeEach (classes : ℕ) (old new : Maker) (labels : List Label) (sign : Bool) (es : List Expr) (xs : List ℕ) : Type 0 where
+pub record MadeEach (classes : ℕ) (old new : Maker) (labels : List Label) (sign : Bool)
+    (es : List Expr) (xs : List ℕ) : Type 0 where
   pub after : List Label
   pub grows : (a : ℕ) (k : Label) → IsFresh classes labels a k → IsFresh classes after a k
   pub count : classes + length after ≡ new.next
@@ -67,7 +71,8 @@ pub record MadeEach (classes : ℕ) (old new : Maker) (labels : List Label) (sig
   pub mentioned : Mentioned old new xs axs
 
 abbrev pub IsUseEach : ℕ → Maker → Maker → Bool → List Expr → List ℕ → Type 0
-IsUseEach classes old new sign es xs = (labels : List Label) → classes + length labels ≡ old.next → MadeEach classes old new labels sign es xs
+IsUseEach classes old new sign es xs = (labels : List Label) → classes + length labels ≡ old.next
+    → MadeEach classes old new labels sign es xs
 
 abbrev pub minus_rows : Bool → ℕ → ℕ → List NormalAxiom
 minus_rows true x c = implies (x ∷ c ∷ []) [] ∷ []
@@ -95,7 +100,8 @@ abbrev pub rest_rows : ℕ → ℕ → ℕ → List NormalAxiom
 rest_rows x r z = implies [] (x ∷ (x + 1) ∷ []) ∷ n2 (triple (x + 1) r z) ∷ []
 
 -- for every account of the fresh atoms so far there is one that goes on from it, and by it these axioms came, which are as P says
-pub record MadeBy (classes : ℕ) (old new : Maker) (labels : List Label) (P : (ℕ → Label → Type 0) → List NormalAxiom → Type 0) : Type 0 where
+pub record MadeBy (classes : ℕ) (old new : Maker) (labels : List Label)
+    (P : (ℕ → Label → Type 0) → List NormalAxiom → Type 0) : Type 0 where
   pub after : List Label
   pub grows : (a : ℕ) (k : Label) → IsFresh classes labels a k → IsFresh classes after a k
   pub count : classes + length after ≡ new.next
@@ -106,11 +112,13 @@ pub record MadeBy (classes : ℕ) (old new : Maker) (labels : List Label) (P : (
   pub mentioned : Mentioned old new [] axs
 
 abbrev pub IsGiven : ℕ → Maker → Maker → ((ℕ → Label → Type 0) → List NormalAxiom → Type 0) → Type 0
-IsGiven classes old new P = (labels : List Label) → classes + length labels ≡ old.next → MadeBy classes old new labels P
+IsGiven classes old new P = (labels : List Label) → classes + length labels ≡ old.next
+    → MadeBy classes old new labels P
 
 -- what came is what this axiom gives, with any number
 abbrev pub IsGivenBy : ℕ → Maker → Maker → Axiom → Type 0
-IsGivenBy classes old new stated = (k : ℕ) → IsGiven classes old new (λ Fresh axs. Gives classes Fresh k stated axs)
+IsGivenBy classes old new stated = (k : ℕ)
+    → IsGiven classes old new (λ Fresh axs. Gives classes Fresh k stated axs)
 
 -- these are the normal axioms of the axioms, and those of owl:Thing and owl:Nothing
 pub record IsMadeOf (classes : ℕ) (axioms : List Axiom) (m : Maker) : Type 0 where
@@ -118,7 +126,8 @@ pub record IsMadeOf (classes : ℕ) (axioms : List Axiom) (m : Maker) : Type 0 w
   pub axs : List NormalAxiom
   pub gives : GivesFrom classes (IsFresh classes labels) 0 axioms axs
   pub atoms : m.next ≡ classes + length labels
-  pub have : (a : NormalAxiom) → HasNow m a ↔ OneOf a (implies [] (0 ∷ []) ∷ implies (1 ∷ []) [] ∷ axs)
+  pub have : (a : NormalAxiom) → HasNow m a
+      ↔ OneOf a (implies [] (0 ∷ []) ∷ implies (1 ∷ []) [] ∷ axs)
   pub paired : IsPaired classes labels
   pub mentioned : (a : ℕ) → classes ≤ a → a < m.next → IsMentioned a axs
 
@@ -134,7 +143,8 @@ role_link r s = n5 (record { lower = r; higher = s })
 
 -- how many normal axioms there are so far
 abbrev pub rows : Maker → ℕ
-rows m = length m.n1.items + length m.n2.items + length m.n3.items + length m.n4.items + length m.n5.items
+rows m = length m.n1.items + length m.n2.items + length m.n3.items + length m.n4.items
+    + length m.n5.items
 
 -- at most so many atoms and so many axioms came
 abbrev pub IsGrown : Maker → Maker → ℕ → ℕ → Type 0
@@ -147,7 +157,8 @@ share false nodes = 2 * nodes
 
 -- so many uses came for expressions with so many nodes: the axioms leave room for one more a use
 abbrev pub IsGrownBy : Maker → Maker → Bool → ℕ → ℕ → Type 0
-IsGrownBy old new sign uses nodes = (new.next ≤ old.next + share sign nodes) × (rows new + uses ≤ rows old + 2 * nodes)
+IsGrownBy old new sign uses nodes =
+    (new.next ≤ old.next + share sign nodes) × (rows new + uses ≤ rows old + 2 * nodes)
 
 -- how many operands the axioms on equal roles have
 abbrev pub role_operands : List Axiom → ℕ
@@ -157,7 +168,8 @@ role_operands (stated ∷ more) = role_operands more
 
 -- what one axiom may add
 abbrev pub IsGrownOnce : Maker → Maker → Axiom → Type 0
-IsGrownOnce old new stated = IsGrown old new (6 * nodes_in stated) (12 * nodes_in stated + role_operands (stated ∷ []))
+IsGrownOnce old new stated = IsGrown old new (6 * nodes_in stated)
+    (12 * nodes_in stated + role_operands (stated ∷ []))
 
 abbrev pub count : Normal → ℕ
 count n = length n.n1 + length n.n2 + length n.n3 + length n.n4 + length n.n5

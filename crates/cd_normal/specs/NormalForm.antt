@@ -29,7 +29,8 @@ circle link (x ∷ xs) (y ∷ ys) = circle_from link x xs ys y
 -- the operands of the list that equal no earlier one and none of those seen
 abbrev pub Kept : List Expr → List Expr → List Expr → Type 0
 Kept seen [] kept = kept ≡ []
-Kept seen (e ∷ es) kept = (OneOf e seen × Kept seen es kept) ⊎ ((OneOf e seen → ⊥) × ((more : List Expr) × (kept ≡ e ∷ more) × Kept (e ∷ seen) es more))
+Kept seen (e ∷ es) kept = (OneOf e seen × Kept seen es kept)
+    ⊎ ((OneOf e seen → ⊥) × ((more : List Expr) × (kept ≡ e ∷ more) × Kept (e ∷ seen) es more))
 
 module _ (classes : ℕ) (Fresh : ℕ → Label → Type 0) where
   -- p is the union of the operands before, and the next ones are apart from it and from each other
@@ -37,8 +38,11 @@ module _ (classes : ℕ) (Fresh : ℕ → Label → Type 0) where
   Chain k before p [] xs axs = ⊥
   Chain k before p (e ∷ es) [] axs = ⊥
   Chain k before p (e ∷ []) (x ∷ xs) axs = axs ≡ implies (x ∷ p ∷ []) [] ∷ []
-  Chain k before p (e ∷ f ∷ es) (x ∷ xs) axs = (q : ℕ) × (more : List NormalAxiom) × Fresh q (chain_of k (e ∷ before)) × Chain k (e ∷ before) q (f ∷ es) xs more
-      × (axs ≡ implies (x ∷ []) (q ∷ []) ∷ implies (p ∷ []) (q ∷ []) ∷ implies (x ∷ p ∷ []) [] ∷ more)
+  Chain k before p (e ∷ f ∷ es) (x ∷ xs) axs =
+      (q : ℕ) × (more : List NormalAxiom) × Fresh q (chain_of k (e ∷ before))
+      × Chain k (e ∷ before) q (f ∷ es) xs more
+      × (axs ≡ implies (x ∷ []) (q ∷ []) ∷ implies (p ∷ []) (q ∷ []) ∷ implies (x ∷ p ∷ []) []
+      ∷ more)
 
   -- no two of the operands, whose neg atoms these are, have a common element: one axiom for two, a chain of unions for more
   abbrev pub Apart : ℕ → List Expr → List ℕ → List NormalAxiom → Type 0
@@ -46,13 +50,18 @@ module _ (classes : ℕ) (Fresh : ℕ → Label → Type 0) where
   Apart k (e ∷ []) xs axs = axs ≡ []
   Apart k (e ∷ f ∷ []) xs axs = axs ≡ implies xs [] ∷ []
   Apart k (e ∷ f ∷ g ∷ es) [] axs = ⊥
-  Apart k (e ∷ f ∷ g ∷ es) (x ∷ xs) axs = (p : ℕ) × (more : List NormalAxiom) × Fresh p (chain_of k (e ∷ [])) × Chain k (e ∷ []) p (f ∷ g ∷ es) xs more × (axs ≡ implies (x ∷ []) (p ∷ []) ∷ more)
+  Apart k (e ∷ f ∷ g ∷ es) (x ∷ xs) axs =
+      (p : ℕ) × (more : List NormalAxiom) × Fresh p (chain_of k (e ∷ []))
+      × Chain k (e ∷ []) p (f ∷ g ∷ es) xs more × (axs ≡ implies (x ∷ []) (p ∷ []) ∷ more)
 
   -- one operand gives nothing, so it is not used either
   abbrev pub RepresentsApart : ℕ → List Expr → List NormalAxiom → Type 0
   RepresentsApart k [] axs = axs ≡ []
   RepresentsApart k (e ∷ []) axs = axs ≡ []
-  RepresentsApart k (e ∷ f ∷ es) axs = (xs : List ℕ) × (a b : List NormalAxiom) × RepresentsEach classes Fresh false (map nnf (e ∷ f ∷ es)) xs a × Apart k (e ∷ f ∷ es) xs b × (axs ≡ b ++ a)
+  RepresentsApart k (e ∷ f ∷ es) axs =
+      (xs : List ℕ) × (a b : List NormalAxiom)
+      × RepresentsEach classes Fresh false (map nnf (e ∷ f ∷ es)) xs a × Apart k (e ∷ f ∷ es) xs b
+      × (axs ≡ b ++ a)
 
   -- operands that equal an earlier one are left out
   abbrev pub GivesApart : ℕ → List Expr → List NormalAxiom → Type 0
@@ -60,25 +69,38 @@ module _ (classes : ℕ) (Fresh : ℕ → Label → Type 0) where
 
   -- what the axiom with the number k gives
   abbrev pub Gives : ℕ → Axiom → List NormalAxiom → Type 0
-  Gives k (SubClass c d) axs = (x y : ℕ) × (a b : List NormalAxiom) × Represents classes Fresh false (nnf c) x a × Represents classes Fresh true (nnf d) y b × (axs ≡ implies (x ∷ []) (y ∷ []) ∷ (a ++ b))
-  Gives k (SameClasses l) axs = (xs ys : List ℕ) × (a b : List NormalAxiom) × RepresentsEach classes Fresh false (map nnf l) xs a × RepresentsEach classes Fresh true (map nnf l) ys b
+  Gives k (SubClass c d) axs = (x y : ℕ) × (a b : List NormalAxiom)
+      × Represents classes Fresh false (nnf c) x a × Represents classes Fresh true (nnf d) y b
+      × (axs ≡ implies (x ∷ []) (y ∷ []) ∷ (a ++ b))
+  Gives k (SameClasses l) axs =
+      (xs ys : List ℕ) × (a b : List NormalAxiom)
+      × RepresentsEach classes Fresh false (map nnf l) xs a
+      × RepresentsEach classes Fresh true (map nnf l) ys b
       × (axs ≡ circle (λ x y. implies (x ∷ []) (y ∷ [])) xs ys ++ (a ++ b))
   Gives k (Disjoint l) axs = GivesApart k l axs
-  Gives k (DisjointUnion c l) axs = (xs ys : List ℕ) × (a b apart : List NormalAxiom) × (c < classes) × RepresentsEach classes Fresh false (map nnf l) xs a × RepresentsEach classes Fresh true (map nnf l) ys b × GivesApart k l apart
-      × (axs ≡ implies (c ∷ []) ys ∷ (map (λ x. implies (x ∷ []) (c ∷ [])) xs ++ (a ++ (b ++ apart))))
+  Gives k (DisjointUnion c l) axs =
+      (xs ys : List ℕ) × (a b apart : List NormalAxiom) × (c < classes)
+      × RepresentsEach classes Fresh false (map nnf l) xs a
+      × RepresentsEach classes Fresh true (map nnf l) ys b × GivesApart k l apart
+      × (axs ≡ implies (c ∷ []) ys
+      ∷ (map (λ x. implies (x ∷ []) (c ∷ [])) xs ++ (a ++ (b ++ apart))))
   Gives k (SubRole r s) axs = axs ≡ n5 (record { lower = r; higher = s }) ∷ []
   Gives k (SameRoles l) axs = axs ≡ circle (λ r s. n5 (record { lower = r; higher = s })) l l
-  Gives k (Domain r c) axs = (x : ℕ) × (a : List NormalAxiom) × Represents classes Fresh true (nnf c) x a × (axs ≡ n3 (triple 0 r x) ∷ a)
-  Gives k (Range r c) axs = (x : ℕ) × (a : List NormalAxiom) × Represents classes Fresh true (nnf c) x a × (axs ≡ n4 (triple 0 r x) ∷ a)
+  Gives k (Domain r c) axs = (x : ℕ) × (a : List NormalAxiom)
+      × Represents classes Fresh true (nnf c) x a × (axs ≡ n3 (triple 0 r x) ∷ a)
+  Gives k (Range r c) axs = (x : ℕ) × (a : List NormalAxiom)
+      × Represents classes Fresh true (nnf c) x a × (axs ≡ n4 (triple 0 r x) ∷ a)
 
   -- what the axioms give, of which the first has the number k
   abbrev pub GivesFrom : ℕ → List Axiom → List NormalAxiom → Type 0
   GivesFrom k [] axs = axs ≡ []
-  GivesFrom k (s ∷ more) axs = (a b : List NormalAxiom) × Gives k s a × GivesFrom (suc k) more b × (axs ≡ a ++ b)
+  GivesFrom k (s ∷ more) axs = (a b : List NormalAxiom) × Gives k s a × GivesFrom (suc k) more b
+      × (axs ≡ a ++ b)
 
 -- the fresh atoms follow the classes, one for each of the list
 abbrev pub IsFresh : ℕ → List Label → ℕ → Label → Type 0
-IsFresh classes labels a label = (n : ℕ) × (a ≡ classes + n) × (n < length labels) × ((k : Label) → get_or labels n k ≡ label)
+IsFresh classes labels a label =
+    (n : ℕ) × (a ≡ classes + n) × (n < length labels) × ((k : Label) → get_or labels n k ≡ label)
 
 -- the atom stands in the normal axiom
 abbrev pub Mentions : ℕ → NormalAxiom → Type 0
@@ -92,30 +114,39 @@ Mentions a (n5 p) = ⊥
 pub record IsStructuralNormalForm (document : Document) (n : Normal) : Type 0 where
   pub labels : List Label
   pub axs : List NormalAxiom
-  pub gives : GivesFrom (length document.classes) (IsFresh (length document.classes) labels) 0 document.axioms axs
+  pub gives : GivesFrom (length document.classes)
+      (IsFresh (length document.classes) labels) 0 document.axioms axs
   pub atoms : n.atoms ≡ length document.classes + length labels
   -- the first atoms are the named ones
   pub named : n.named ≡ map (λ c. true) document.classes ++ map (λ k. false) labels
   pub roles : n.roles ≡ length document.roles
   -- each of them at least once, and that all is in owl:Thing and nothing in owl:Nothing
-  pub have : (a : NormalAxiom) → HasNormal n a ↔ OneOf a (implies [] (0 ∷ []) ∷ implies (1 ∷ []) [] ∷ axs)
+  pub have : (a : NormalAxiom) → HasNormal n a
+      ↔ OneOf a (implies [] (0 ∷ []) ∷ implies (1 ∷ []) [] ∷ axs)
   -- each fresh atom stands in one
-  pub no_other : (a : ℕ) → length document.classes ≤ a → a < n.atoms → (x : NormalAxiom) × HasNormal n x × Mentions a x
+  pub no_other : (a : ℕ) → length document.classes ≤ a → a < n.atoms
+      → (x : NormalAxiom) × HasNormal n x × Mentions a x
   -- an atom of a universal has one second atom
-  pub one_rest : (a b x : ℕ) (e : Expr) → IsFresh (length document.classes) labels a (rest_of x e) → IsFresh (length document.classes) labels b (rest_of x e) → a ≡ b
+  pub one_rest : (a b x : ℕ) (e : Expr) → IsFresh (length document.classes) labels a (rest_of x e)
+      → IsFresh (length document.classes) labels b (rest_of x e) → a ≡ b
 
 -- an interpretation in which the normal axioms hold is one of the document, and its first atoms are the classes
 abbrev pub Restricts : Type 0
-Restricts = (document : Document) (n : Normal) (i : Interpretation) → IsStructuralNormalForm document n → IsNormalModel n i → All (Holds i) document.axioms × ((c x : ℕ) → c < length document.classes → x < i.size → in_atom i c x ≡ class_has i c x)
+Restricts = (document : Document) (n : Normal) (i : Interpretation)
+    → IsStructuralNormalForm document n → IsNormalModel n i
+    → All (Holds i) document.axioms
+    × ((c x : ℕ) → c < length document.classes → x < i.size → in_atom i c x ≡ class_has i c x)
 
 -- an interpretation in which the normal axioms hold, with the elements, the roles and the members of the classes of i
 pub record Extension (document : Document) (n : Normal) (i : Interpretation) : Type 0 where
   pub made : Interpretation
   pub size : made.size ≡ i.size
   pub roles : made.roles ≡ i.roles
-  pub classes : (c x : ℕ) → c < length document.classes → x < i.size → in_atom made c x ≡ class_has i c x
+  pub classes : (c x : ℕ) → c < length document.classes → x < i.size
+      → in_atom made c x ≡ class_has i c x
   pub model : IsNormalModel n made
 
 -- every interpretation of the document has one
 abbrev pub Extends : Type 0
-Extends = (document : Document) (n : Normal) (i : Interpretation) → IsStructuralNormalForm document n → All (Holds i) document.axioms → Extension document n i
+Extends = (document : Document) (n : Normal) (i : Interpretation)
+    → IsStructuralNormalForm document n → All (Holds i) document.axioms → Extension document n i

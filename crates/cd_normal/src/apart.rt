@@ -27,8 +27,12 @@ pub(crate) fn apart(
 ) -> Result<(), Memory>
     requires within { (roles : ℕ) × IsTrue (list_all (is_in_range classes roles) operands.now) }
     requires few { maker.old.next + 3 * sum_by nodes_of operands.now < 2 ^ 32 }
-    ensures given { IfOk result (λ done. (k : ℕ) → IsGiven classes maker.old maker.new (λ Fresh axs. GivesApart classes Fresh k operands.now axs)) }
-    ensures grown { IfOk result (λ done. IsGrown maker.old maker.new (3 * sum_by nodes_of operands.now) (6 * sum_by nodes_of operands.now)) }
+    ensures given { IfOk result (λ done. (k : ℕ)
+        → IsGiven classes maker.old maker.new
+        (λ Fresh axs. GivesApart classes Fresh k operands.now axs)) }
+    ensures grown { IfOk result (λ done.
+        IsGrown maker.old maker.new (3 * sum_by nodes_of operands.now)
+        (6 * sum_by nodes_of operands.now)) }
 {
     let places = distinct(alloc, operands)?;
     if places.len() < 2 {
@@ -48,10 +52,15 @@ fn used_at(
 ) -> Result<Vec<Atom>, Memory>
     requires within { (roles : ℕ) × IsTrue (list_all (is_in_range classes roles) operands.now) }
     requires inside { All (λ place. place < length operands.now) places.now }
-    requires few { maker.old.next + 2 * sum_by nodes_of (map (operand operands.now) places.now) < 2 ^ 32 }
-    ensures is_use { IfOk result (λ xs. IsUseEach classes maker.old maker.new false (map nnf (map (operand operands.now) places.now)) xs.items) }
+    requires few { maker.old.next + 2 * sum_by nodes_of (map (operand operands.now) places.now)
+        < 2 ^ 32 }
+    ensures is_use { IfOk result
+        (λ xs. IsUseEach classes maker.old maker.new false
+        (map nnf (map (operand operands.now) places.now)) xs.items) }
     ensures same_length { IfOk result (λ xs. length xs.items ≡ length places.now) }
-    ensures grown { IfOk result (λ xs. IsGrownBy maker.old maker.new false (length places.now) (sum_by nodes_of (map (operand operands.now) places.now))) }
+    ensures grown { IfOk result (λ xs.
+        IsGrownBy maker.old maker.new false (length places.now)
+        (sum_by nodes_of (map (operand operands.now) places.now))) }
 {
     let mut made = Vec::new(alloc);
     for place in places {

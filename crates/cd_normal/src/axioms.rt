@@ -50,10 +50,13 @@ fn sub_class(
     lower: &Expr,
     higher: &Expr,
 ) -> Result<(), Memory>
-    requires within { (roles : ℕ) × IsTrue (has_numbers_below classes roles (SubClass lower.now higher.now)) }
+    requires within { (roles : ℕ)
+        × IsTrue (has_numbers_below classes roles (SubClass lower.now higher.now)) }
     requires few { maker.old.next + 6 * nodes_in (SubClass lower.now higher.now) < 2 ^ 32 }
-    ensures given { IfOk result (λ done. IsGivenBy classes maker.old maker.new (SubClass lower.now higher.now)) }
-    ensures grown { IfOk result (λ done. IsGrownOnce maker.old maker.new (SubClass lower.now higher.now)) }
+    ensures given { IfOk result (λ done.
+        IsGivenBy classes maker.old maker.new (SubClass lower.now higher.now)) }
+    ensures grown { IfOk result (λ done.
+        IsGrownOnce maker.old maker.new (SubClass lower.now higher.now)) }
 {
     let x = used(maker, alloc, classes, lower, false, false)?;
     let y = used(maker, alloc, classes, higher, true, false)?;
@@ -68,10 +71,13 @@ fn same_classes(
     classes: u32,
     operands: &[Expr],
 ) -> Result<(), Memory>
-    requires within { (roles : ℕ) × IsTrue (has_numbers_below classes roles (SameClasses operands.now)) }
+    requires within { (roles : ℕ)
+        × IsTrue (has_numbers_below classes roles (SameClasses operands.now)) }
     requires few { maker.old.next + 6 * nodes_in (SameClasses operands.now) < 2 ^ 32 }
-    ensures given { IfOk result (λ done. IsGivenBy classes maker.old maker.new (SameClasses operands.now)) }
-    ensures grown { IfOk result (λ done. IsGrownOnce maker.old maker.new (SameClasses operands.now)) }
+    ensures given { IfOk result (λ done.
+        IsGivenBy classes maker.old maker.new (SameClasses operands.now)) }
+    ensures grown { IfOk result (λ done.
+        IsGrownOnce maker.old maker.new (SameClasses operands.now)) }
 {
     let xs = used_each(maker, alloc, classes, operands, false, false)?;
     let ys = used_each(maker, alloc, classes, operands, true, false)?;
@@ -87,10 +93,13 @@ fn disjoint_union(
     class: u32,
     operands: &[Expr],
 ) -> Result<(), Memory>
-    requires within { (roles : ℕ) × IsTrue (has_numbers_below classes roles (DisjointUnion class operands.now)) }
+    requires within { (roles : ℕ)
+        × IsTrue (has_numbers_below classes roles (DisjointUnion class operands.now)) }
     requires few { maker.old.next + 6 * nodes_in (DisjointUnion class operands.now) < 2 ^ 32 }
-    ensures given { IfOk result (λ done. IsGivenBy classes maker.old maker.new (DisjointUnion class operands.now)) }
-    ensures grown { IfOk result (λ done. IsGrownOnce maker.old maker.new (DisjointUnion class operands.now)) }
+    ensures given { IfOk result (λ done.
+        IsGivenBy classes maker.old maker.new (DisjointUnion class operands.now)) }
+    ensures grown { IfOk result (λ done.
+        IsGrownOnce maker.old maker.new (DisjointUnion class operands.now)) }
 {
     let xs = used_each(maker, alloc, classes, operands, false, false)?;
     let ys = used_each(maker, alloc, classes, operands, true, false)?;
@@ -103,7 +112,8 @@ fn disjoint_union(
 
 /// `SubObjectPropertyOf`: one pair of roles.
 fn sub_role(maker: &mut Maker, classes: u32, lower: u32, higher: u32) -> Result<(), Memory>
-    ensures given { IfOk result (λ done. IsGivenBy classes maker.old maker.new (SubRole lower higher)) }
+    ensures given { IfOk result (λ done.
+        IsGivenBy classes maker.old maker.new (SubRole lower higher)) }
     ensures grown { IfOk result (λ done. IsGrownOnce maker.old maker.new (SubRole lower higher)) }
 {
     maker.add_role(lower, higher)?;
@@ -112,7 +122,8 @@ fn sub_role(maker: &mut Maker, classes: u32, lower: u32, higher: u32) -> Result<
 
 /// `EquivalentObjectProperties`: each role is under the next, and the last under the first.
 fn same_roles(maker: &mut Maker, classes: u32, roles: &[u32]) -> Result<(), Memory>
-    ensures given { IfOk result (λ done. IsGivenBy classes maker.old maker.new (SameRoles roles.now)) }
+    ensures given { IfOk result (λ done.
+        IsGivenBy classes maker.old maker.new (SameRoles roles.now)) }
     ensures grown { IfOk result (λ done. IsGrownOnce maker.old maker.new (SameRoles roles.now)) }
 {
     maker.under_round(roles)?;
@@ -127,9 +138,11 @@ fn domain(
     role: u32,
     class: &Expr,
 ) -> Result<(), Memory>
-    requires within { (roles : ℕ) × IsTrue (has_numbers_below classes roles (Domain role class.now)) }
+    requires within { (roles : ℕ)
+        × IsTrue (has_numbers_below classes roles (Domain role class.now)) }
     requires few { maker.old.next + 6 * nodes_in (Domain role class.now) < 2 ^ 32 }
-    ensures given { IfOk result (λ done. IsGivenBy classes maker.old maker.new (Domain role class.now)) }
+    ensures given { IfOk result (λ done.
+        IsGivenBy classes maker.old maker.new (Domain role class.now)) }
     ensures grown { IfOk result (λ done. IsGrownOnce maker.old maker.new (Domain role class.now)) }
 {
     let x = used(maker, alloc, classes, class, true, false)?;
@@ -145,9 +158,11 @@ fn range(
     role: u32,
     class: &Expr,
 ) -> Result<(), Memory>
-    requires within { (roles : ℕ) × IsTrue (has_numbers_below classes roles (Range role class.now)) }
+    requires within { (roles : ℕ)
+        × IsTrue (has_numbers_below classes roles (Range role class.now)) }
     requires few { maker.old.next + 6 * nodes_in (Range role class.now) < 2 ^ 32 }
-    ensures given { IfOk result (λ done. IsGivenBy classes maker.old maker.new (Range role class.now)) }
+    ensures given { IfOk result (λ done.
+        IsGivenBy classes maker.old maker.new (Range role class.now)) }
     ensures grown { IfOk result (λ done. IsGrownOnce maker.old maker.new (Range role class.now)) }
 {
     let x = used(maker, alloc, classes, class, true, false)?;
@@ -166,8 +181,12 @@ pub(crate) fn all_give(
 ) -> Result<(), Memory>
     requires within { (roles : ℕ) × IsTrue (list_all (has_numbers_below classes roles) axioms.now) }
     requires few { maker.old.next + 6 * nodes axioms.now < 2 ^ 32 }
-    ensures given { IfOk result (λ done. IsGiven classes maker.old maker.new (λ Fresh axs. GivesFrom classes Fresh 0 axioms.now axs)) }
-    ensures grown { IfOk result (λ done. IsGrown maker.old maker.new (6 * nodes axioms.now) (12 * nodes axioms.now + role_operands axioms.now)) }
+    ensures given { IfOk result (λ done.
+        IsGiven classes maker.old maker.new
+        (λ Fresh axs. GivesFrom classes Fresh 0 axioms.now axs)) }
+    ensures grown { IfOk result (λ done.
+        IsGrown maker.old maker.new (6 * nodes axioms.now)
+        (12 * nodes axioms.now + role_operands axioms.now)) }
 {
     for stated in axioms {
         stated_gives(maker, alloc, classes, stated)?;

@@ -13,7 +13,8 @@ impl Maker {
     /// A fresh atom that x implies. Constant time, but for growing the list of axioms.
     fn above_one(&mut self, alloc: Global, x: Atom) -> Result<Atom, Memory>
         requires room { self.old.next + 1 < 2 ^ 32 }
-        ensures closes { IfOk result (λ p. Closes self.old self.new p (implies (x ∷ []) (p ∷ []) ∷ [])) }
+        ensures closes { IfOk result
+            (λ p. Closes self.old self.new p (implies (x ∷ []) (p ∷ []) ∷ [])) }
         ensures few { rows self.new ≤ rows self.old + 1 }
     {
         let p = Atom(self.fresh());
@@ -26,7 +27,9 @@ impl Maker {
     /// A fresh atom that x and p imply, which are apart. Constant time, but for growing the list of axioms.
     fn above_both(&mut self, alloc: Global, x: Atom, p: Atom) -> Result<Atom, Memory>
         requires room { self.old.next + 1 < 2 ^ 32 }
-        ensures closes { IfOk result (λ q. Closes self.old self.new q (implies (x ∷ []) (q ∷ []) ∷ implies (p ∷ []) (q ∷ []) ∷ implies (x ∷ p ∷ []) [] ∷ [])) }
+        ensures closes { IfOk result
+            (λ q. Closes self.old self.new q (implies (x ∷ []) (q ∷ []) ∷ implies (p ∷ []) (q ∷ [])
+            ∷ implies (x ∷ p ∷ []) [] ∷ [])) }
         ensures few { rows self.new ≤ rows self.old + 3 }
     {
         self.part(alloc, x, p)?;
@@ -54,8 +57,11 @@ impl Maker {
 pub(crate) fn chain(maker: &mut Maker, alloc: Global, xs: &[Atom]) -> Result<(), Memory>
     requires two { 2 ≤ length xs.now }
     requires room { maker.old.next + length xs.now < 2 ^ 32 }
-    ensures given { IfOk result (λ done. (classes k : ℕ) (es : List Expr) → length es ≡ length xs.now → IsGiven classes maker.old maker.new (λ Fresh axs. Apart classes Fresh k es xs.now axs)) }
-    ensures grown { IfOk result (λ done. IsGrown maker.old maker.new (length xs.now) (3 * length xs.now)) }
+    ensures given { IfOk result (λ done. (classes k : ℕ) (es : List Expr)
+        → length es ≡ length xs.now
+        → IsGiven classes maker.old maker.new (λ Fresh axs. Apart classes Fresh k es xs.now axs)) }
+    ensures grown { IfOk result (λ done.
+        IsGrown maker.old maker.new (length xs.now) (3 * length xs.now)) }
 {
     if xs.len() == 2 {
         return maker.part(alloc, xs[0], xs[1]);

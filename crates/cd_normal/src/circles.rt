@@ -28,7 +28,8 @@ impl Maker {
         requires same_length { length xs.now ≡ length ys.now }
         ensures next { self.new.next ≡ self.old.next }
         ensures few { rows self.new ≤ rows self.old + length xs.now }
-        ensures adds { IfOk result (λ done. Adds self.old self.new (circle atom_link xs.now ys.now)) }
+        ensures adds { IfOk result (λ done.
+            Adds self.old self.new (circle atom_link xs.now ys.now)) }
     {
         for at in 0..xs.len() {
             let next = wrapped(at, ys.len());
@@ -56,7 +57,8 @@ impl Maker {
     pub(crate) fn under_round(&mut self, roles: &[u32]) -> Result<(), Memory>
         ensures next { self.new.next ≡ self.old.next }
         ensures few { rows self.new ≤ rows self.old + length roles.now }
-        ensures adds { IfOk result (λ done. Adds self.old self.new (circle role_link roles.now roles.now)) }
+        ensures adds { IfOk result (λ done.
+            Adds self.old self.new (circle role_link roles.now roles.now)) }
     {
         for at in 0..roles.len() {
             let next = wrapped(at, roles.len());

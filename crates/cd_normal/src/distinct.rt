@@ -14,8 +14,10 @@ use std::collections::HashSet;
 ///
 /// One look-up an operand, so linear in the operands' nodes.
 pub(crate) fn distinct(alloc: Global, operands: &[Expr]) -> Result<Vec<usize>, Memory>
-    ensures kept { IfOk result (λ places. Kept [] operands.now (map (operand operands.now) places.items)) }
-    ensures within { IfOk result (λ places. All (λ place. place < length operands.now) places.items) }
+    ensures kept { IfOk result (λ places.
+        Kept [] operands.now (map (operand operands.now) places.items)) }
+    ensures within { IfOk result
+        (λ places. All (λ place. place < length operands.now) places.items) }
 {
     let mut seen = HashSet::new(alloc);
     let mut places = Vec::new(alloc);

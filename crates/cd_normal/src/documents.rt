@@ -25,12 +25,16 @@ pub fn normalise(alloc: Global, document: &Document) -> Result<Normal, Memory>
     ensures method { IfOk result (λ normal. IsStructuralNormalForm document.now normal) }
 
     // Every interpretation in which they hold is one of the document, and every one of the document extends to one in which they hold.
-    ensures restricts { IfOk result (λ normal. (i : Interpretation) → IsNormalModel normal i → IsModel document.now.axioms i) }
-    ensures extends { IfOk result (λ normal. (i : Interpretation) → IsModel document.now.axioms i → Extension document.now normal i) }
+    ensures restricts { IfOk result (λ normal. (i : Interpretation) → IsNormalModel normal i
+        → IsModel document.now.axioms i) }
+    ensures extends { IfOk result (λ normal. (i : Interpretation) → IsModel document.now.axioms i
+        → Extension document.now normal i) }
 
     // How many they are.
-    ensures atoms { IfOk result (λ normal. normal.atoms ≤ length document.now.classes + 6 * nodes document.now.axioms) }
-    ensures axioms { IfOk result (λ normal. count normal ≤ 12 * nodes document.now.axioms + role_operands document.now.axioms + 2) }
+    ensures atoms { IfOk result (λ normal. normal.atoms
+        ≤ length document.now.classes + 6 * nodes document.now.axioms) }
+    ensures axioms { IfOk result (λ normal. count normal
+        ≤ 12 * nodes document.now.axioms + role_operands document.now.axioms + 2) }
 {
     let classes = document.classes.items().len() as u32;
     let roles = document.roles.items().len() as u32;
@@ -45,7 +49,8 @@ fn made(alloc: Global, classes: u32, axioms: &[Axiom]) -> Result<Maker, Memory>
     requires few { classes + 6 * nodes axioms.now < 2 ^ 32 }
     ensures made { IfOk result (λ maker. IsMadeOf classes axioms.now maker) }
     ensures atoms { IfOk result (λ maker. maker.next ≤ classes + 6 * nodes axioms.now) }
-    ensures axioms { IfOk result (λ maker. rows maker ≤ 12 * nodes axioms.now + role_operands axioms.now + 2) }
+    ensures axioms { IfOk result (λ maker. rows maker
+        ≤ 12 * nodes axioms.now + role_operands axioms.now + 2) }
 {
     let mut maker = Maker {
         next: classes,

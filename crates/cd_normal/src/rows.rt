@@ -12,7 +12,8 @@ impl Maker {
     pub(crate) fn add_implication(&mut self, left: Vec<Atom>, right: Vec<Atom>) -> Result<(), Memory>
         ensures next { self.new.next ≡ self.old.next }
         ensures few { rows self.new ≤ rows self.old + 1 }
-        ensures adds { IfOk result (λ done. Adds self.old self.new (implies left.items right.items ∷ [])) }
+        ensures adds { IfOk result (λ done.
+            Adds self.old self.new (implies left.items right.items ∷ [])) }
     {
         self.n1.push(Conj {
             left: Seq::of(left),
@@ -25,7 +26,8 @@ impl Maker {
     fn add_existential(&mut self, atom: u32, role: u32, other: u32) -> Result<(), Memory>
         ensures next { self.new.next ≡ self.old.next }
         ensures few { rows self.new ≤ rows self.old + 1 }
-        ensures adds { IfOk result (λ done. Adds self.old self.new (n2 (triple atom role other) ∷ [])) }
+        ensures adds { IfOk result (λ done.
+            Adds self.old self.new (n2 (triple atom role other) ∷ [])) }
     {
         self.n2.push(Triple {
             atom: Atom(atom),
@@ -39,7 +41,8 @@ impl Maker {
     pub(crate) fn add_propagation(&mut self, atom: u32, role: u32, other: u32) -> Result<(), Memory>
         ensures next { self.new.next ≡ self.old.next }
         ensures few { rows self.new ≤ rows self.old + 1 }
-        ensures adds { IfOk result (λ done. Adds self.old self.new (n3 (triple atom role other) ∷ [])) }
+        ensures adds { IfOk result (λ done.
+            Adds self.old self.new (n3 (triple atom role other) ∷ [])) }
     {
         self.n3.push(Triple {
             atom: Atom(atom),
@@ -81,7 +84,8 @@ impl Maker {
     /// A fresh atom for an existential over an atom: below it (pos), or above it (neg).
     pub(crate) fn some_use(&mut self, role: u32, part: u32, sign: bool) -> Result<u32, Memory>
         requires room { self.old.next + 1 < 2 ^ 32 }
-        ensures closes { IfOk result (λ x. Closes self.old self.new x (some_rows sign x role part)) }
+        ensures closes { IfOk result
+            (λ x. Closes self.old self.new x (some_rows sign x role part)) }
         ensures few { rows self.new ≤ rows self.old + 1 }
     {
         let x = self.fresh();
@@ -143,7 +147,8 @@ impl Maker {
         sign: bool,
     ) -> Result<u32, Memory>
         requires room { self.old.next + 1 < 2 ^ 32 }
-        ensures closes { IfOk result (λ x. Closes self.old self.new x (list_rows meet sign x ys.items)) }
+        ensures closes { IfOk result
+            (λ x. Closes self.old self.new x (list_rows meet sign x ys.items)) }
         ensures few { rows self.new ≤ rows self.old + (1 + length ys.items) }
     {
         let x = self.fresh();
@@ -166,7 +171,8 @@ impl Maker {
     pub(crate) fn add_universal(&mut self, atom: u32, role: u32, other: u32) -> Result<(), Memory>
         ensures next { self.new.next ≡ self.old.next }
         ensures few { rows self.new ≤ rows self.old + 1 }
-        ensures adds { IfOk result (λ done. Adds self.old self.new (n4 (triple atom role other) ∷ [])) }
+        ensures adds { IfOk result (λ done.
+            Adds self.old self.new (n4 (triple atom role other) ∷ [])) }
     {
         self.n4.push(Triple {
             atom: Atom(atom),
@@ -179,7 +185,8 @@ impl Maker {
     /// A fresh atom below a universal over an atom.
     pub(crate) fn all_use(&mut self, role: u32, part: u32) -> Result<u32, Memory>
         requires room { self.old.next + 1 < 2 ^ 32 }
-        ensures closes { IfOk result (λ x. Closes self.old self.new x (n4 (triple x role part) ∷ [])) }
+        ensures closes { IfOk result
+            (λ x. Closes self.old self.new x (n4 (triple x role part) ∷ [])) }
         ensures few { rows self.new ≤ rows self.old + 1 }
     {
         let x = self.fresh();

@@ -25,7 +25,8 @@ pub fn used(
 ) -> Result<u32, Memory>
     requires within { (roles : ℕ) × IsTrue (is_in_range classes roles e.now) }
     requires few { maker.old.next + 2 * nodes_of e.now < 2 ^ 32 }
-    ensures is_use { IfOk result (λ x. IsUse classes maker.old maker.new sign (form flipped e.now) x) }
+    ensures is_use { IfOk result
+        (λ x. IsUse classes maker.old maker.new sign (form flipped e.now) x) }
     ensures grown { IfOk result (λ x. IsGrownBy maker.old maker.new sign 1 (nodes_of e.now)) }
 {
     match e {
@@ -76,8 +77,10 @@ fn universal(
 ) -> Result<u32, Memory>
     requires within { (roles : ℕ) × IsTrue (is_in_range classes roles part.now) }
     requires few { maker.old.next + 2 * (1 + nodes_of part.now) < 2 ^ 32 }
-    ensures is_use { IfOk result (λ x. IsUse classes maker.old maker.new sign (AllOf role (form flipped part.now)) x) }
-    ensures grown { IfOk result (λ x. IsGrownBy maker.old maker.new sign 1 (1 + nodes_of part.now)) }
+    ensures is_use { IfOk result
+        (λ x. IsUse classes maker.old maker.new sign (AllOf role (form flipped part.now)) x) }
+    ensures grown { IfOk result (λ x.
+        IsGrownBy maker.old maker.new sign 1 (1 + nodes_of part.now)) }
 {
     if sign {
         let y = used(maker, alloc, classes, part, true, flipped)?;
@@ -102,9 +105,11 @@ pub(crate) fn used_each(
 ) -> Result<Vec<Atom>, Memory>
     requires within { (roles : ℕ) × IsTrue (list_all (is_in_range classes roles) parts.now) }
     requires few { maker.old.next + 2 * sum_by nodes_of parts.now < 2 ^ 32 }
-    ensures is_use { IfOk result (λ xs. IsUseEach classes maker.old maker.new sign (map (form flipped) parts.now) xs.items) }
+    ensures is_use { IfOk result
+        (λ xs. IsUseEach classes maker.old maker.new sign (map (form flipped) parts.now) xs.items) }
     ensures same_length { IfOk result (λ xs. length xs.items ≡ length parts.now) }
-    ensures grown { IfOk result (λ xs. IsGrownBy maker.old maker.new sign (length parts.now) (sum_by nodes_of parts.now)) }
+    ensures grown { IfOk result (λ xs.
+        IsGrownBy maker.old maker.new sign (length parts.now) (sum_by nodes_of parts.now)) }
 {
     let mut made = Vec::new(alloc);
     for part in parts {

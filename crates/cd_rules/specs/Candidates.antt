@@ -15,9 +15,11 @@ abbrev pub IsAtHand : Normal → (List Elem → Type 0) → ℕ → ℕ → Type
 IsAtHand n Has atom b = (b ≡ atom) ⊎ ((c : List Elem) × Has c × Eligible n (Plain b) c)
 
 -- these number axioms, among them each axiom with the atom on the left whose other left atoms are at hand
-pub record AreCandidates (n : Normal) (Has : List Elem → Type 0) (atom : ℕ) (numbers : List ℕ) : Type 0 where
+pub record AreCandidates (n : Normal) (Has : List Elem → Type 0) (atom : ℕ)
+    (numbers : List ℕ) : Type 0 where
   pub in_range : AreNumbers n.n1 numbers
-  pub every : (k : ℕ) → k < length n.n1 → (taken : List ℕ) → IsWithoutOne atom (left_of n.n1 k) taken
+  pub every : (k : ℕ) → k < length n.n1 → (taken : List ℕ)
+      → IsWithoutOne atom (left_of n.n1 k) taken
       → ((b : ℕ) → OneOf b taken → IsAtHand n Has atom b) → OneOf k numbers
 
 -- these are the atoms at hand
@@ -27,9 +29,11 @@ AreAtHand n Has atom atoms = (b : ℕ) → OneOf b atoms ↔ IsAtHand n Has atom
 -- these number the axioms that are filed under one of the atoms and have this atom on the left
 abbrev pub AreFiledWith : List Conj → List (List ℕ) → ℕ → List ℕ → ℕ → List ℕ → Type 0
 AreFiledWith axioms filed number atoms atom numbers =
-    (k : ℕ) → OneOf k numbers ↔ ((b : ℕ) × OneOf b atoms × OneOf k (filed_at filed number b) × OneOf atom (left_of axioms k))
+    (k : ℕ) → OneOf k numbers ↔ ((b : ℕ) × OneOf b atoms × OneOf k (filed_at filed number b)
+        × OneOf atom (left_of axioms k))
 
 -- how many axioms are filed under these atoms, each atom counted as often as it stands there
 abbrev pub filed_count : List (List ℕ) → ℕ → List ℕ → ℕ
 filed_count filed number [] = 0
-filed_count filed number (b ∷ atoms) = length (filed_at filed number b) + filed_count filed number atoms
+filed_count filed number (b ∷ atoms) =
+    length (filed_at filed number b) + filed_count filed number atoms

@@ -8,6 +8,7 @@ use Rattle.cd_rules.specs.declared.facts.DeadFact.{DeadFact}
 use Rattle.cd_rules.specs.Steps.{IsOfAtom, IsOfExist}
 
 -- all rules for an element
-abbrev pub IsOfElem : Normal → List ℕ → (List Elem → Type 0) → List BackFact → List DeadFact → Elem → List Elem → List Elem → Type 0
+abbrev pub IsOfElem : Normal → List ℕ → (List Elem → Type 0) → List BackFact → List DeadFact → Elem
+    → List Elem → List Elem → Type 0
 IsOfElem n key Has backs deads (Plain a) others d = IsOfAtom n key Has a others d
 IsOfElem n key Has backs deads (Exist r k) others d = IsOfExist n Has backs deads r k others d

@@ -21,5 +21,6 @@ abbrev pub IsPicked : List (List Elem) → List ℕ → List Elem → Type 0
 IsPicked clauses numbers c = OneOf c (picked clauses numbers)
 
 -- in the context of `key`, d is the conclusion of a rule from clauses that are had and from these facts
-abbrev pub ConcludesFrom : Normal → List ℕ → (List Elem → Type 0) → List BackFact → List DeadFact → List Elem → Type 0
+abbrev pub ConcludesFrom : Normal → List ℕ → (List Elem → Type 0) → List BackFact → List DeadFact
+    → List Elem → Type 0
 ConcludesFrom n key Has backs deads d = Concludes n key Has (IsBack backs) (IsDead deads) d

@@ -15,7 +15,8 @@ AreNumbers axioms numbers = (k : ℕ) → OneOf k numbers → k < length axioms
 
 -- each axiom with the atom on the left is numbered
 abbrev pub HasAllWith : List Conj → ℕ → List ℕ → Type 0
-HasAllWith axioms atom numbers = (k : ℕ) → k < length axioms → OneOf atom (left_of axioms k) → OneOf k numbers
+HasAllWith axioms atom numbers = (k : ℕ) → k < length axioms → OneOf atom (left_of axioms k)
+    → OneOf k numbers
 
 -- the list that is filed under the atom, and none where the atom is out of range
 abbrev pub filed_at : List (List ℕ) → ℕ → ℕ → List ℕ

@@ -28,16 +28,19 @@ IsNeg key a others d = OneOf (negated a) key × SameSet d others
 
 -- Ex, for atom a
 abbrev pub IsEx : Normal → ℕ → List Elem → List Elem → Type 0
-IsEx n a others d = (t : Triple) × OneOf t n.n2 × (t.atom ≡ a) × SameSet d (Exist t.role (plain t.other ∷ []) ∷ others)
+IsEx n a others d = (t : Triple) × OneOf t n.n2 × (t.atom ≡ a)
+    × SameSet d (Exist t.role (plain t.other ∷ []) ∷ others)
 
 -- a left side with one of its occurrences of an atom taken out
 abbrev pub IsWithoutOne : ℕ → List ℕ → List ℕ → Type 0
-IsWithoutOne a left taken = (before : List ℕ) × (after : List ℕ) × (left ≡ before ++ (a ∷ after)) × (taken ≡ before ++ after)
+IsWithoutOne a left taken = (before : List ℕ) × (after : List ℕ) × (left ≡ before ++ (a ∷ after))
+    × (taken ≡ before ++ after)
 
 -- Con, for atom a by one axiom, where the other atoms are eligible in clauses that are had
 abbrev pub IsConBy : Normal → (List Elem → Type 0) → Conj → ℕ → List Elem → List Elem → Type 0
 IsConBy n Has x a others d =
-    (taken : List ℕ) × IsWithoutOne a x.left taken × ((m : List Elem) × Rests n Has taken m × SameSet d ((others ++ m) ++ map Plain x.right))
+    (taken : List ℕ) × IsWithoutOne a x.left taken
+        × ((m : List Elem) × Rests n Has taken m × SameSet d ((others ++ m) ++ map Plain x.right))
 
 -- Con, for atom a by any axiom
 abbrev pub IsCon : Normal → (List Elem → Type 0) → ℕ → List Elem → List Elem → Type 0
@@ -46,19 +49,24 @@ IsCon n Has a others d = (x : Conj) × OneOf x n.n1 × IsConBy n Has x a others 
 -- All, for atom a with the existentials of clauses that are had
 abbrev pub IsAllOfAtom : Normal → (List Elem → Type 0) → ℕ → List Elem → List Elem → Type 0
 IsAllOfAtom n Has a others d =
-    (t : Triple) × OneOf t n.n4 × (t.atom ≡ a) × ((c : List Elem) × Has c × ((r : ℕ) × (k : List ℕ) × Eligible n (Exist r k) c × Under n.n5 r t.role
+    (t : Triple) × OneOf t n.n4 × (t.atom ≡ a)
+        × ((c : List Elem) × Has c × ((r : ℕ) × (k : List ℕ) × Eligible n (Exist r k) c
+        × Under n.n5 r t.role
     × SameSet d (Exist r (key_with (plain t.other) k) ∷ (rest (Exist r k) c ++ others))))
 
 -- All, for an existential with the atoms of clauses that are had
-abbrev pub IsAllOfExist : Normal → (List Elem → Type 0) → ℕ → List ℕ → List Elem → List Elem → Type 0
+abbrev pub IsAllOfExist : Normal → (List Elem → Type 0) → ℕ → List ℕ → List Elem → List Elem
+    → Type 0
 IsAllOfExist n Has r k others d =
-    (t : Triple) × OneOf t n.n4 × Under n.n5 r t.role × ((b : List Elem) × Has b × Eligible n (Plain t.atom) b
+    (t : Triple) × OneOf t n.n4 × Under n.n5 r t.role
+        × ((b : List Elem) × Has b × Eligible n (Plain t.atom) b
     × SameSet d (Exist r (key_with (plain t.other) k) ∷ (others ++ rest (Plain t.atom) b)))
 
 -- Back, for an existential and an atom of its key's context
 abbrev pub IsBackOf : Normal → ℕ → List ℕ → ℕ → List Elem → List Elem → Type 0
 IsBackOf n r k a others d =
-    (t : Triple) × OneOf t n.n3 × (t.atom ≡ a) × Under n.n5 r t.role × SameSet d (Plain t.other ∷ Exist r (key_with (negated a) k) ∷ others)
+    (t : Triple) × OneOf t n.n3 × (t.atom ≡ a) × Under n.n5 r t.role
+        × SameSet d (Plain t.other ∷ Exist r (key_with (negated a) k) ∷ others)
 
 -- Back, for an existential and these facts
 abbrev pub IsBackFrom : Normal → List BackFact → ℕ → List ℕ → List Elem → List Elem → Type 0
@@ -70,8 +78,13 @@ IsDeadFrom deads r k others d = IsDead deads r k × SameSet d others
 
 -- all rules for atom a
 abbrev pub IsOfAtom : Normal → List ℕ → (List Elem → Type 0) → ℕ → List Elem → List Elem → Type 0
-IsOfAtom n key Has a others d = IsNeg key a others d ⊎ (IsEx n a others d ⊎ (IsCon n Has a others d ⊎ IsAllOfAtom n Has a others d))
+IsOfAtom n key Has a others d =
+    IsNeg key a others d ⊎ (IsEx n a others d
+    ⊎ (IsCon n Has a others d ⊎ IsAllOfAtom n Has a others d))
 
 -- all rules for an existential
-abbrev pub IsOfExist : Normal → (List Elem → Type 0) → List BackFact → List DeadFact → ℕ → List ℕ → List Elem → List Elem → Type 0
-IsOfExist n Has backs deads r k others d = IsBackFrom n backs r k others d ⊎ (IsDeadFrom deads r k others d ⊎ IsAllOfExist n Has r k others d)
+abbrev pub IsOfExist : Normal → (List Elem → Type 0) → List BackFact → List DeadFact → ℕ → List ℕ
+    → List Elem → List Elem → Type 0
+IsOfExist n Has backs deads r k others d =
+    IsBackFrom n backs r k others d
+    ⊎ (IsDeadFrom deads r k others d ⊎ IsAllOfExist n Has r k others d)

@@ -8,12 +8,15 @@ use Rattle.cd_rules.specs.declared.facts.DeadFact.{DeadFact}
 use Rattle.cd_rules.specs.Facts.{IsBack, IsDead, IsPicked, ConcludesFrom}
 
 -- one of the premises of Con is the clause
-abbrev pub RestsUse : (n : Normal) (Has : List Elem → Type 0) (left : List ℕ) (m : List Elem) → Rests n Has left m → List Elem → Type 0
+abbrev pub RestsUse : (n : Normal) (Has : List Elem → Type 0) (left : List ℕ) (m : List Elem)
+    → Rests n Has left m → List Elem → Type 0
 RestsUse n Has [] m r p = ⊥
 RestsUse n Has (a ∷ left) m r p = (r.0 ≡ p) ⊎ RestsUse n Has left r.3.tail r.3.rests p
 
 -- the conclusion has the clause as a premise
-abbrev pub Uses : (n : Normal) (key : List ℕ) (Has : List Elem → Type 0) (Back : ℕ → List ℕ → ℕ → Type 0) (Dead : ℕ → List ℕ → Type 0) (d : List Elem) → Concludes n key Has Back Dead d → List Elem → Type 0
+abbrev pub Uses : (n : Normal) (key : List ℕ) (Has : List Elem → Type 0)
+    (Back : ℕ → List ℕ → ℕ → Type 0) (Dead : ℕ → List ℕ → Type 0) (d : List Elem)
+    → Concludes n key Has Back Dead d → List Elem → Type 0
 Uses n key Has Back Dead d (by_init a m s) p = ⊥
 Uses n key Has Back Dead d (by_neg a c h e m s) p = c ≡ p
 Uses n key Has Back Dead d (by_con x m k r s) p = RestsUse n Has x.left m r p
@@ -23,17 +26,22 @@ Uses n key Has Back Dead d (by_dead c r k h e b s) p = c ≡ p
 Uses n key Has Back Dead d (by_all t c b r k m h e hb eb u s) p = (c ≡ p) ⊎ (b ≡ p)
 
 -- the conclusion uses the back
-abbrev pub UsesBack : (n : Normal) (key : List ℕ) (Has : List Elem → Type 0) (Back : ℕ → List ℕ → ℕ → Type 0) (Dead : ℕ → List ℕ → Type 0) (d : List Elem) → Concludes n key Has Back Dead d → BackFact → Type 0
+abbrev pub UsesBack : (n : Normal) (key : List ℕ) (Has : List Elem → Type 0)
+    (Back : ℕ → List ℕ → ℕ → Type 0) (Dead : ℕ → List ℕ → Type 0) (d : List Elem)
+    → Concludes n key Has Back Dead d → BackFact → Type 0
 UsesBack n key Has Back Dead d (by_init a m s) f = ⊥
 UsesBack n key Has Back Dead d (by_neg a c h e m s) f = ⊥
 UsesBack n key Has Back Dead d (by_con x m k r s) f = ⊥
 UsesBack n key Has Back Dead d (by_ex t c m h e s) f = ⊥
-UsesBack n key Has Back Dead d (by_back t c r k m h e b u s) f = record { role = r; key = k; atom = t.atom } ≡ f
+UsesBack n key Has Back Dead d (by_back t c r k m h e b u s) f =
+    record { role = r; key = k; atom = t.atom } ≡ f
 UsesBack n key Has Back Dead d (by_dead c r k h e b s) f = ⊥
 UsesBack n key Has Back Dead d (by_all t c b r k m h e hb eb u s) f = ⊥
 
 -- the conclusion uses the dead
-abbrev pub UsesDead : (n : Normal) (key : List ℕ) (Has : List Elem → Type 0) (Back : ℕ → List ℕ → ℕ → Type 0) (Dead : ℕ → List ℕ → Type 0) (d : List Elem) → Concludes n key Has Back Dead d → DeadFact → Type 0
+abbrev pub UsesDead : (n : Normal) (key : List ℕ) (Has : List Elem → Type 0)
+    (Back : ℕ → List ℕ → ℕ → Type 0) (Dead : ℕ → List ℕ → Type 0) (d : List Elem)
+    → Concludes n key Has Back Dead d → DeadFact → Type 0
 UsesDead n key Has Back Dead d (by_init a m s) f = ⊥
 UsesDead n key Has Back Dead d (by_neg a c h e m s) f = ⊥
 UsesDead n key Has Back Dead d (by_con x m k r s) f = ⊥
@@ -47,10 +55,12 @@ abbrev pub FromKey : Normal → List ℕ → List Elem → Type 0
 FromKey n key d = Concludes n key (λ c. ⊥) (λ r k a. ⊥) (λ r k. ⊥) d
 
 -- d is a conclusion that uses the clause numbered `premise`, with others that are live and with these facts
-abbrev pub FromClause : Normal → List ℕ → List (List Elem) → List ℕ → ℕ → List BackFact → List DeadFact → List Elem → Type 0
+abbrev pub FromClause : Normal → List ℕ → List (List Elem) → List ℕ → ℕ → List BackFact
+    → List DeadFact → List Elem → Type 0
 FromClause n key clauses live premise backs deads d =
     (q : ConcludesFrom n key (IsPicked clauses (premise ∷ live)) backs deads d)
-    × Uses n key (IsPicked clauses (premise ∷ live)) (IsBack backs) (IsDead deads) d q (slice_index_or clauses premise [])
+    × Uses n key (IsPicked clauses (premise ∷ live)) (IsBack backs) (IsDead deads) d q
+    (slice_index_or clauses premise [])
 
 -- d is a conclusion that uses the back, with clauses that are live
 abbrev pub FromBack : Normal → List ℕ → List (List Elem) → List ℕ → BackFact → List Elem → Type 0

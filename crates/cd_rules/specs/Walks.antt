@@ -24,7 +24,8 @@ pub record IsPlaceOf (e : Elem) (c : List Elem) (i : ℕ) : Type 0 where
 
 -- Back, by one axiom
 abbrev pub IsBackBy : Normal → ℕ → List ℕ → ℕ → List Elem → Triple → List Elem → Type 0
-IsBackBy n r k a others t d = Under n.n5 r t.role × SameSet d (Plain t.other ∷ Exist r (key_with (negated a) k) ∷ others)
+IsBackBy n r k a others t d =
+    Under n.n5 r t.role × SameSet d (Plain t.other ∷ Exist r (key_with (negated a) k) ∷ others)
 
 -- Back, by one fact, if it is of this role and key
 abbrev pub IsBackByFact : Normal → ℕ → List ℕ → List Elem → BackFact → List Elem → Type 0
@@ -32,7 +33,8 @@ IsBackByFact n r k others f d = (f.role ≡ r) × (f.key ≡ k) × IsBackOf n r 
 
 -- Back, for a fact with one clause
 abbrev pub IsBackWith : Normal → BackFact → List Elem → List Elem → Type 0
-IsBackWith n f c d = Eligible n (Exist f.role f.key) c × IsBackOf n f.role f.key f.atom (rest (Exist f.role f.key) c) d
+IsBackWith n f c d = Eligible n (Exist f.role f.key) c
+    × IsBackOf n f.role f.key f.atom (rest (Exist f.role f.key) c) d
 
 -- Dead, for a fact with one clause
 abbrev pub IsDeadWith : Normal → DeadFact → List Elem → List Elem → Type 0
@@ -40,12 +42,14 @@ IsDeadWith n f c d = Eligible n (Exist f.role f.key) c × SameSet d (rest (Exist
 
 -- All, by one axiom
 abbrev pub IsAllBy : Normal → ℕ → List ℕ → List Elem → List Elem → Triple → List Elem → Type 0
-IsAllBy n r k left right t d = Under n.n5 r t.role × SameSet d (Exist r (key_with (plain t.other) k) ∷ (left ++ right))
+IsAllBy n r k left right t d =
+    Under n.n5 r t.role × SameSet d (Exist r (key_with (plain t.other) k) ∷ (left ++ right))
 
 -- All, by these axioms with one element of a clause, if that is an eligible existential
 abbrev pub IsAllAtExist : Normal → List Triple → List Elem → List Elem → Elem → List Elem → Type 0
 IsAllAtExist n triples others c (Plain a) d = ⊥
-IsAllAtExist n triples others c (Exist r k) d = Eligible n (Exist r k) c × ByOne (IsAllBy n r k (rest (Exist r k) c) others) triples d
+IsAllAtExist n triples others c (Exist r k) d =
+    Eligible n (Exist r k) c × ByOne (IsAllBy n r k (rest (Exist r k) c) others) triples d
 
 -- All, by these axioms with the elements of a clause
 abbrev pub IsAllWithExists : Normal → List Triple → List Elem → List Elem → List Elem → Type 0
@@ -53,7 +57,9 @@ IsAllWithExists n triples others c d = ByOne (IsAllAtExist n triples others c) c
 
 -- All, for an existential with one element of a clause, if that is an eligible atom
 abbrev pub IsAllAtAtom : Normal → ℕ → List ℕ → List Elem → List Elem → Elem → List Elem → Type 0
-IsAllAtAtom n r k others c (Plain a) d = Eligible n (Plain a) c × ((t : Triple) × OneOf t n.n4 × (t.atom ≡ a) × IsAllBy n r k others (rest (Plain a) c) t d)
+IsAllAtAtom n r k others c (Plain a) d =
+    Eligible n (Plain a) c × ((t : Triple) × OneOf t n.n4 × (t.atom ≡ a)
+    × IsAllBy n r k others (rest (Plain a) c) t d)
 IsAllAtAtom n r k others c (Exist s l) d = ⊥
 
 -- All, for an existential with the elements of a clause

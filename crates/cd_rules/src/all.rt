@@ -31,7 +31,9 @@ pub(crate) fn all_of_atom(
     out: &mut Vec<Clause>,
 ) -> Result<(), Memory>
     requires choices { (k : ℕ) → OneOf k choices.now → k < length clauses.now }
-    ensures { Appends Among (IsAllOfAtom index.now.normal (IsPicked clauses.now choices.now) atom others.now) (IsOk result) out.old.items out.new.items }
+    ensures { Appends Among (IsAllOfAtom index.now.normal
+        (IsPicked clauses.now choices.now) atom others.now)
+        (IsOk result) out.old.items out.new.items }
 {
     let triples = alls(index, atom);
     if triples.is_empty() {
@@ -52,7 +54,8 @@ fn all_with_exists(
     others: &Clause,
     out: &mut Vec<Clause>,
 ) -> Result<(), Memory>
-    ensures { Appends Among (IsAllWithExists index.now.normal triples.now others.now clause.now) (IsOk result) out.old.items out.new.items }
+    ensures { Appends Among (IsAllWithExists index.now.normal triples.now others.now clause.now)
+        (IsOk result) out.old.items out.new.items }
 {
     for i in 0..clause.elems().len() {
         all_at_exist(index, triples, clause, i, others, out)?;
@@ -71,7 +74,8 @@ fn all_at_exist(
     out: &mut Vec<Clause>,
 ) -> Result<(), Memory>
     requires { i < length clause.now }
-    ensures { Appends Among (IsAllAtExist index.now.normal triples.now others.now clause.now (slice_index_or clause.now i (Plain 0))) (IsOk result) out.old.items out.new.items }
+    ensures { Appends Among (IsAllAtExist index.now.normal triples.now others.now clause.now
+        (slice_index_or clause.now i (Plain 0))) (IsOk result) out.old.items out.new.items }
 {
     match &clause.elems()[i] {
         Elem::Plain(_) => Ok(()),
@@ -95,7 +99,9 @@ pub(crate) fn all_of_exist(
     out: &mut Vec<Clause>,
 ) -> Result<(), Memory>
     requires choices { (k : ℕ) → OneOf k choices.now → k < length clauses.now }
-    ensures { Appends Among (IsAllOfExist index.now.normal (IsPicked clauses.now choices.now) role key.now others.now) (IsOk result) out.old.items out.new.items }
+    ensures { Appends Among (IsAllOfExist index.now.normal
+        (IsPicked clauses.now choices.now) role key.now others.now)
+        (IsOk result) out.old.items out.new.items }
 {
     for number in choices {
         all_with_atoms(index, &clauses[*number], role, key, others, out)?;
@@ -112,7 +118,8 @@ fn all_with_atoms(
     others: &Clause,
     out: &mut Vec<Clause>,
 ) -> Result<(), Memory>
-    ensures { Appends Among (IsAllWithAtoms index.now.normal role key.now others.now clause.now) (IsOk result) out.old.items out.new.items }
+    ensures { Appends Among (IsAllWithAtoms index.now.normal role key.now others.now clause.now)
+        (IsOk result) out.old.items out.new.items }
 {
     for i in 0..clause.elems().len() {
         all_at_atom(index, clause, i, role, key, others, out)?;
@@ -132,7 +139,8 @@ fn all_at_atom(
     out: &mut Vec<Clause>,
 ) -> Result<(), Memory>
     requires { i < length clause.now }
-    ensures { Appends Among (IsAllAtAtom index.now.normal role key.now others.now clause.now (slice_index_or clause.now i (Plain 0))) (IsOk result) out.old.items out.new.items }
+    ensures { Appends Among (IsAllAtAtom index.now.normal role key.now others.now clause.now
+        (slice_index_or clause.now i (Plain 0))) (IsOk result) out.old.items out.new.items }
 {
     match &clause.elems()[i] {
         Elem::Exist(_, _) => Ok(()),
@@ -160,7 +168,8 @@ fn all_by(
     right: &Clause,
     out: &mut Vec<Clause>,
 ) -> Result<(), Memory>
-    ensures { Appends Among (ByOne (IsAllBy index.now.normal role key.now left.now right.now) triples.now) (IsOk result) out.old.items out.new.items }
+    ensures { Appends Among (ByOne (IsAllBy index.now.normal role key.now left.now right.now)
+        triples.now) (IsOk result) out.old.items out.new.items }
 {
     for triple in triples {
         all_by_one(index, triple, role, key, left, right, out)?;
@@ -179,7 +188,8 @@ fn all_by_one(
     right: &Clause,
     out: &mut Vec<Clause>,
 ) -> Result<(), Memory>
-    ensures { Appends Among (IsAllBy index.now.normal role key.now left.now right.now triple.now) (IsOk result) out.old.items out.new.items }
+    ensures { Appends Among (IsAllBy index.now.normal role key.now left.now right.now triple.now)
+        (IsOk result) out.old.items out.new.items }
 {
     if !is_under(index, role, triple.role) {
         return Ok(());
@@ -196,7 +206,8 @@ fn concluded(
     left: &Clause,
     right: &Clause,
 ) -> Result<Clause, Memory>
-    ensures { IfOk result (λ clause. SameSet clause (Exist role (key_with (plain other) key.now) ∷ (left.now ++ right.now))) }
+    ensures { IfOk result (λ clause.
+        SameSet clause (Exist role (key_with (plain other) key.now) ∷ (left.now ++ right.now))) }
 {
     let narrowed = key.with(Lit {
         atom: other,

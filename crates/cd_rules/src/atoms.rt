@@ -24,7 +24,10 @@ pub(crate) fn rest_without_atom(
     atom: Atom,
     normal: &Normal,
 ) -> Result<Option<Clause>, Memory>
-    ensures { IfOk result (λ found. MatchOption found (Eligible normal.now (Plain atom) clause.now → ⊥) (λ others. Eligible normal.now (Plain atom) clause.now × SameSet others (rest (Plain atom) clause.now))) }
+    ensures { IfOk result (λ found.
+        MatchOption found (Eligible normal.now (Plain atom) clause.now → ⊥)
+        (λ others. Eligible normal.now (Plain atom) clause.now
+        × SameSet others (rest (Plain atom) clause.now))) }
 {
     if has_existential(clause) {
         return Ok(None);
@@ -51,7 +54,8 @@ pub(crate) fn push_eligible(
     normal: &Normal,
     atoms: &mut Vec<u32>,
 ) -> Result<(), Memory>
-    ensures { OnOk result ((b : ℕ) → OneOf b atoms.new.items ↔ (OneOf b atoms.old.items ⊎ Eligible normal.now (Plain b) clause.now)) }
+    ensures { OnOk result ((b : ℕ) → OneOf b atoms.new.items
+        ↔ (OneOf b atoms.old.items ⊎ Eligible normal.now (Plain b) clause.now)) }
 {
     if has_existential(clause) {
         return Ok(());
@@ -71,7 +75,10 @@ pub(crate) fn push_eligible(
 /// The atom at place `i` where it is eligible. Linear in the clause.
 fn eligible_at(clause: &Clause, i: usize, normal: &Normal) -> Option<Atom>
     requires { i < length clause.now }
-    ensures { MatchOption result ((a : ℕ) → slice_index_or clause.now i (Plain 0) ≡ Plain a → Eligible normal.now (Plain a) clause.now → ⊥) (λ a. (slice_index_or clause.now i (Plain 0) ≡ Plain a) × Eligible normal.now (Plain a) clause.now) }
+    ensures { MatchOption result ((a : ℕ) → slice_index_or clause.now i (Plain 0) ≡ Plain a
+        → Eligible normal.now (Plain a) clause.now → ⊥)
+        (λ a. (slice_index_or clause.now i (Plain 0) ≡ Plain a)
+        × Eligible normal.now (Plain a) clause.now) }
 {
     let elems = clause.elems();
     match &elems[i] {
@@ -106,7 +113,8 @@ fn is_existential(elem: &Elem) -> bool
 
 /// The place at which the atom stands. Linear in the elements.
 fn place_of(elems: &[Elem], atom: Atom) -> Option<usize>
-    ensures { MatchOption result (OneOf (Plain atom) elems.now → ⊥) (λ i. (i < length elems.now) × (slice_index_or elems.now i (Plain 0) ≡ Plain atom)) }
+    ensures { MatchOption result (OneOf (Plain atom) elems.now → ⊥)
+        (λ i. (i < length elems.now) × (slice_index_or elems.now i (Plain 0) ≡ Plain atom)) }
 {
     'places: for i in 0..elems.len() {
         if is_atom(&elems[i], atom) {

@@ -31,7 +31,8 @@ pub(crate) fn back(
     others: &Clause,
     out: &mut Vec<Clause>,
 ) -> Result<(), Memory>
-    ensures { Appends Among (IsBackOf index.now.normal role key.now atom others.now) (IsOk result) out.old.items out.new.items }
+    ensures { Appends Among (IsBackOf index.now.normal role key.now atom others.now)
+        (IsOk result) out.old.items out.new.items }
 {
     for triple in backs(index, atom) {
         back_by(index, triple, role, key, atom, others, out)?;
@@ -49,7 +50,8 @@ fn back_by(
     others: &Clause,
     out: &mut Vec<Clause>,
 ) -> Result<(), Memory>
-    ensures { Appends Among (IsBackBy index.now.normal role key.now atom others.now triple.now) (IsOk result) out.old.items out.new.items }
+    ensures { Appends Among (IsBackBy index.now.normal role key.now atom others.now triple.now)
+        (IsOk result) out.old.items out.new.items }
 {
     if !is_under(index, role, triple.role) {
         return Ok(());
@@ -66,7 +68,8 @@ fn concluded(
     other: Atom,
     others: &Clause,
 ) -> Result<Clause, Memory>
-    ensures { IfOk result (λ clause. SameSet clause (Plain other ∷ Exist role (key_with (negated atom) key.now) ∷ others.now)) }
+    ensures { IfOk result (λ clause.
+        SameSet clause (Plain other ∷ Exist role (key_with (negated atom) key.now) ∷ others.now)) }
 {
     let narrowed = key.with(Lit {
         atom,
@@ -86,7 +89,8 @@ pub(crate) fn back_from(
     others: &Clause,
     out: &mut Vec<Clause>,
 ) -> Result<(), Memory>
-    ensures { Appends Among (IsBackFrom index.now.normal facts.now role key.now others.now) (IsOk result) out.old.items out.new.items }
+    ensures { Appends Among (IsBackFrom index.now.normal facts.now role key.now others.now)
+        (IsOk result) out.old.items out.new.items }
 {
     for fact in facts {
         back_by_fact(index, fact, role, key, others, out)?;
@@ -103,7 +107,8 @@ fn back_by_fact(
     others: &Clause,
     out: &mut Vec<Clause>,
 ) -> Result<(), Memory>
-    ensures { Appends Among (IsBackByFact index.now.normal role key.now others.now fact.now) (IsOk result) out.old.items out.new.items }
+    ensures { Appends Among (IsBackByFact index.now.normal role key.now others.now fact.now)
+        (IsOk result) out.old.items out.new.items }
 {
     if !are_same(fact.role, &fact.key, role, key) {
         return Ok(());
@@ -122,7 +127,9 @@ pub fn on_back(
     out: &mut Vec<Clause>,
 ) -> Result<(), Memory>
     requires live { (k : ℕ) → OneOf k live.now → k < length clauses.now }
-    ensures { (key : List ℕ) → Appends Among (FromBack index.now.normal key clauses.now live.now fact.now) (IsOk result) out.old.items out.new.items }
+    ensures { (key : List ℕ) → Appends Among
+        (FromBack index.now.normal key clauses.now live.now fact.now)
+        (IsOk result) out.old.items out.new.items }
 {
     for number in live {
         back_with(index, &clauses[*number], fact, out)?;
@@ -137,7 +144,8 @@ fn back_with(
     fact: &BackFact,
     out: &mut Vec<Clause>,
 ) -> Result<(), Memory>
-    ensures { Appends Among (IsBackWith index.now.normal fact.now clause.now) (IsOk result) out.old.items out.new.items }
+    ensures { Appends Among (IsBackWith index.now.normal fact.now clause.now)
+        (IsOk result) out.old.items out.new.items }
 {
     match rest_beside(index, clause, fact.role, &fact.key)? {
         Some(others) => back(index, fact.role, &fact.key, fact.atom, &others, out),

@@ -30,7 +30,9 @@ pub(crate) fn candidates(
     limit: usize,
 ) -> Result<Option<Vec<usize>>, Memory>
     requires choices { (k : ℕ) → OneOf k choices.now → k < length clauses.now }
-    ensures { IfOk result (λ found. IfSome found (λ numbers. AreCandidates index.now.normal (IsPicked clauses.now choices.now) atom numbers.items)) }
+    ensures { IfOk result (λ found.
+        IfSome found (λ numbers. AreCandidates index.now.normal
+        (IsPicked clauses.now choices.now) atom numbers.items)) }
 {
     if limit <= FEW || filed(index, atom).len() >= limit {
         return Ok(None);
@@ -54,7 +56,8 @@ fn atoms_at_hand(
     atom: Atom,
 ) -> Result<Vec<u32>, Memory>
     requires choices { (k : ℕ) → OneOf k choices.now → k < length clauses.now }
-    ensures exact { IfOk result (λ atoms. AreAtHand normal.now (IsPicked clauses.now choices.now) atom atoms.items) }
+    ensures exact { IfOk result (λ atoms.
+        AreAtHand normal.now (IsPicked clauses.now choices.now) atom atoms.items) }
     ensures ascends { IfOk result (λ atoms. IsStrictlyIncreasing atoms.items) }
 {
     let mut atoms = Vec::new(alloc);
@@ -77,7 +80,8 @@ fn put_in_order(numbers: &mut Vec<u32>)
 
 /// Whether fewer axioms than `limit` are filed under these atoms. Linear in the atoms.
 fn are_fewer(index: &Index, atoms: &[u32], limit: usize) -> bool
-    ensures { (result ≡ true) ↔ (filed_count index.now.filed index.now.normal.atoms atoms.now < limit) }
+    ensures { (result ≡ true) ↔ (filed_count index.now.filed index.now.normal.atoms atoms.now
+        < limit) }
 {
     let mut left = limit;
     let mut rest = atoms;
@@ -94,7 +98,9 @@ fn are_fewer(index: &Index, atoms: &[u32], limit: usize) -> bool
 
 /// The axioms that are filed under one of these atoms and have `atom` on the left. A look over the left side of each that is filed there.
 fn filed_with(alloc: Global, index: &Index, atoms: &[u32], atom: Atom) -> Result<Vec<usize>, Memory>
-    ensures { IfOk result (λ numbers. AreFiledWith index.now.normal.n1 index.now.filed index.now.normal.atoms atoms.now atom numbers.items) }
+    ensures { IfOk result (λ numbers.
+        AreFiledWith index.now.normal.n1 index.now.filed index.now.normal.atoms atoms.now atom
+        numbers.items) }
 {
     let mut numbers = Vec::new(alloc);
     'atoms: for i in 0..atoms.len() {
@@ -110,7 +116,10 @@ fn push_filed(
     atom: Atom,
     numbers: &mut Vec<usize>,
 ) -> Result<(), Memory>
-    ensures { OnOk result ((k : ℕ) → OneOf k numbers.new.items ↔ (OneOf k numbers.old.items ⊎ (OneOf k (filed_at index.now.filed index.now.normal.atoms under) × OneOf atom (left_of index.now.normal.n1 k)))) }
+    ensures { OnOk result ((k : ℕ) → OneOf k numbers.new.items
+        ↔ (OneOf k numbers.old.items
+        ⊎ (OneOf k (filed_at index.now.filed index.now.normal.atoms under)
+        × OneOf atom (left_of index.now.normal.n1 k)))) }
 {
     let axioms = index.normal().n1.items();
     let found = filed(index, under);

@@ -42,7 +42,9 @@ pub(crate) fn con(
     out: &mut Vec<Clause>,
 ) -> Result<(), Memory>
     requires choices { (k : ℕ) → OneOf k choices.now → k < length clauses.now }
-    ensures { Appends Among (IsCon index.now.normal (IsPicked clauses.now choices.now) atom others.now) (IsOk result) out.old.items out.new.items }
+    ensures { Appends Among (IsCon index.now.normal
+        (IsPicked clauses.now choices.now) atom others.now)
+        (IsOk result) out.old.items out.new.items }
 {
     let all = with_left(index, atom);
     let fewer = candidates(alloc, index, clauses, choices, atom, all.len())?;
@@ -72,9 +74,12 @@ fn con_by_each(
     others: &Clause,
     out: &mut Vec<Clause>,
 ) -> Result<(), Memory>
-    requires numbers { AreCandidates index.now.normal (IsPicked clauses.now choices.now) atom numbers.now }
+    requires numbers { AreCandidates index.now.normal
+        (IsPicked clauses.now choices.now) atom numbers.now }
     requires choices { (k : ℕ) → OneOf k choices.now → k < length clauses.now }
-    ensures { Appends Among (IsCon index.now.normal (IsPicked clauses.now choices.now) atom others.now) (IsOk result) out.old.items out.new.items }
+    ensures { Appends Among (IsCon index.now.normal
+        (IsPicked clauses.now choices.now) atom others.now)
+        (IsOk result) out.old.items out.new.items }
 {
     let normal = index.normal();
     let axioms = normal.n1.items();
@@ -105,7 +110,9 @@ fn con_by(
     out: &mut Vec<Clause>,
 ) -> Result<(), Memory>
     requires choices { (k : ℕ) → OneOf k choices.now → k < length clauses.now }
-    ensures { Appends Among (IsConBy normal.now (IsPicked clauses.now choices.now) conj.now atom others.now) (IsOk result) out.old.items out.new.items }
+    ensures { Appends Among (IsConBy normal.now
+        (IsPicked clauses.now choices.now) conj.now atom others.now)
+        (IsOk result) out.old.items out.new.items }
 {
     let left = conj.left.items();
     let right = conj.right.items();
@@ -143,7 +150,10 @@ fn con_from(
     out: &mut Vec<Clause>,
 ) -> Result<(), Memory>
     requires choices { (k : ℕ) → OneOf k choices.now → k < length clauses.now }
-    ensures { Appends Among (λ d. (m : List Elem) × Rests normal.now (IsPicked clauses.now choices.now) taken.now m × SameSet d ((base.now ++ m) ++ map Plain right.now)) (IsOk result) out.old.items out.new.items }
+    ensures { Appends Among (λ d. (m : List Elem)
+        × Rests normal.now (IsPicked clauses.now choices.now) taken.now m
+        × SameSet d ((base.now ++ m) ++ map Plain right.now))
+        (IsOk result) out.old.items out.new.items }
 {
     match taken {
         [] => {
@@ -173,7 +183,10 @@ fn join_rest(
     atom: Atom,
     normal: &Normal,
 ) -> Result<Option<Clause>, Memory>
-    ensures { IfOk result (λ found. MatchOption found (Eligible normal.now (Plain atom) clause.now → ⊥) (λ joined. Eligible normal.now (Plain atom) clause.now × SameSet joined (base.now ++ rest (Plain atom) clause.now))) }
+    ensures { IfOk result (λ found.
+        MatchOption found (Eligible normal.now (Plain atom) clause.now → ⊥)
+        (λ joined. Eligible normal.now (Plain atom) clause.now
+        × SameSet joined (base.now ++ rest (Plain atom) clause.now))) }
 {
     match rest_without_atom(clause, atom, normal)? {
         Some(others) => {

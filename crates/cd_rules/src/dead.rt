@@ -28,7 +28,8 @@ pub(crate) fn dead_from(
     others: &Clause,
     out: &mut Vec<Clause>,
 ) -> Result<(), Memory>
-    ensures { Appends Among (IsDeadFrom facts.now role key.now others.now) (IsOk result) out.old.items out.new.items }
+    ensures { Appends Among (IsDeadFrom facts.now role key.now others.now)
+        (IsOk result) out.old.items out.new.items }
 {
     if is_dead(facts, role, key) {
         out.push(others.copy()?)?;
@@ -59,7 +60,9 @@ pub fn on_dead(
     out: &mut Vec<Clause>,
 ) -> Result<(), Memory>
     requires live { (k : ℕ) → OneOf k live.now → k < length clauses.now }
-    ensures { (key : List ℕ) → Appends Among (FromDead index.now.normal key clauses.now live.now fact.now) (IsOk result) out.old.items out.new.items }
+    ensures { (key : List ℕ) → Appends Among
+        (FromDead index.now.normal key clauses.now live.now fact.now)
+        (IsOk result) out.old.items out.new.items }
 {
     for number in live {
         dead_with(index, &clauses[*number], fact, out)?;
@@ -74,7 +77,8 @@ fn dead_with(
     fact: &DeadFact,
     out: &mut Vec<Clause>,
 ) -> Result<(), Memory>
-    ensures { Appends Among (IsDeadWith index.now.normal fact.now clause.now) (IsOk result) out.old.items out.new.items }
+    ensures { Appends Among (IsDeadWith index.now.normal fact.now clause.now)
+        (IsOk result) out.old.items out.new.items }
 {
     if let Some(others) = rest_beside(index, clause, fact.role, &fact.key)? {
         out.push(others)?;

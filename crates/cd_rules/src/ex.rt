@@ -25,7 +25,8 @@ pub(crate) fn ex(
     others: &Clause,
     out: &mut Vec<Clause>,
 ) -> Result<(), Memory>
-    ensures { Appends Among (IsEx index.now.normal atom others.now) (IsOk result) out.old.items out.new.items }
+    ensures { Appends Among (IsEx index.now.normal atom others.now)
+        (IsOk result) out.old.items out.new.items }
 {
     let mut rest = gives(index, atom);
     'axioms: while let [edge, later @ ..] = rest {

@@ -16,8 +16,10 @@ pub(crate) fn rest_beside(
     role: Role,
     key: &Key,
 ) -> Result<Option<Clause>, Memory>
-    ensures { IfOk result (λ found. MatchOption found (Eligible index.now.normal (Exist role key.now) clause.now → ⊥)
-        (λ others. Eligible index.now.normal (Exist role key.now) clause.now × SameSet others (rest (Exist role key.now) clause.now))) }
+    ensures { IfOk result (λ found.
+        MatchOption found (Eligible index.now.normal (Exist role key.now) clause.now → ⊥)
+        (λ others. Eligible index.now.normal (Exist role key.now) clause.now
+        × SameSet others (rest (Exist role key.now) clause.now))) }
 {
     let Some(i) = place_of(clause, role, key) else {
         return Ok(None);
@@ -31,7 +33,8 @@ pub(crate) fn rest_beside(
 /// The place of this existential in the clause, if it is there. It stands at no other place. Linear in the clause and the literals of
 /// its keys.
 fn place_of(clause: &Clause, role: Role, key: &Key) -> Option<usize>
-    ensures { MatchOption result (OneOf (Exist role key.now) clause.now → ⊥) (IsPlaceOf (Exist role key.now) clause.now) }
+    ensures { MatchOption result (OneOf (Exist role key.now) clause.now → ⊥)
+        (IsPlaceOf (Exist role key.now) clause.now) }
 {
     let elems = clause.elems();
     for i in 0..elems.len() {

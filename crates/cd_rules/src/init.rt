@@ -17,7 +17,8 @@ use std::alloc::Global;
 ///
 /// Linear in the key and in the axioms without a left side. `Memory` leaves such conclusions alone behind.
 pub fn on_key(alloc: Global, index: &Index, key: &Key, out: &mut Vec<Clause>) -> Result<(), Memory>
-    ensures { Appends Among (FromKey index.now.normal key.now) (IsOk result) out.old.items out.new.items }
+    ensures { Appends Among (FromKey index.now.normal key.now)
+        (IsOk result) out.old.items out.new.items }
 {
     init(alloc, key, out)?;
     free(alloc, index, out)
@@ -78,7 +79,8 @@ fn push_right(
     out: &mut Vec<Clause>,
 ) -> Result<(), Memory>
     requires { number < length axioms.now }
-    ensures { Appends Among (IsRightOf axioms.now number) (IsOk result) out.old.items out.new.items }
+    ensures { Appends Among (IsRightOf axioms.now number)
+        (IsOk result) out.old.items out.new.items }
 {
     out.push(atoms_clause(alloc, axioms[number].right.items())?)?;
     Ok(())

@@ -60,7 +60,8 @@ pub fn with_left<'a>(index: &'a Index, atom: Atom) -> &'a [usize]
 pub fn filed<'a>(index: &'a Index, atom: Atom) -> &'a [usize]
     ensures numbers { AreNumbers index.now.normal.n1 result.now }
     ensures list { result.now ≡ filed_at index.now.filed index.now.normal.atoms atom }
-    ensures filing { atom < index.now.normal.atoms → IsFiling index.now.normal.n1 index.now.normal.atoms index.now.filed }
+    ensures filing { atom < index.now.normal.atoms
+        → IsFiling index.now.normal.n1 index.now.normal.atoms index.now.filed }
 {
     let normal = index.normal();
     if atom.0 < normal.atoms {

@@ -22,7 +22,8 @@ pub(crate) fn neg(
     others: &Clause,
     out: &mut Vec<Clause>,
 ) -> Result<(), Memory>
-    ensures { Appends Among (IsNeg key.now atom others.now) (IsOk result) out.old.items out.new.items }
+    ensures { Appends Among (IsNeg key.now atom others.now)
+        (IsOk result) out.old.items out.new.items }
 {
     let literal = Lit {
         atom,

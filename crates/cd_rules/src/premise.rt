@@ -38,7 +38,8 @@ pub fn on_clause(
 ) -> Result<(), Memory>
     requires live { (k : ℕ) → OneOf k live.now → k < length clauses.now }
     requires premise { premise < length clauses.now }
-    ensures { Appends Among (FromClause index.now.normal key.now clauses.now live.now premise backs.now deads.now) (IsOk result) out.old.items out.new.items }
+    ensures { Appends Among (FromClause index.now.normal key.now clauses.now live.now premise
+        backs.now deads.now) (IsOk result) out.old.items out.new.items }
 {
     let choices = choices_of(alloc, premise, live)?;
     let clause = &clauses[premise];
@@ -77,7 +78,9 @@ fn on_elem(
     out: &mut Vec<Clause>,
 ) -> Result<(), Memory>
     requires choices { (k : ℕ) → OneOf k choices.now → k < length clauses.now }
-    ensures { Appends Among (IsOfElem index.now.normal key.now (IsPicked clauses.now choices.now) backs.now deads.now elem.now others.now) (IsOk result) out.old.items out.new.items }
+    ensures { Appends Among (IsOfElem index.now.normal key.now
+        (IsPicked clauses.now choices.now) backs.now deads.now elem.now others.now)
+        (IsOk result) out.old.items out.new.items }
 {
     match elem {
         Elem::Plain(atom) => on_atom(alloc, index, key, clauses, choices, *atom, others, out),
@@ -99,7 +102,9 @@ fn on_atom(
     out: &mut Vec<Clause>,
 ) -> Result<(), Memory>
     requires choices { (k : ℕ) → OneOf k choices.now → k < length clauses.now }
-    ensures { Appends Among (IsOfAtom index.now.normal key.now (IsPicked clauses.now choices.now) atom others.now) (IsOk result) out.old.items out.new.items }
+    ensures { Appends Among (IsOfAtom index.now.normal key.now
+        (IsPicked clauses.now choices.now) atom others.now)
+        (IsOk result) out.old.items out.new.items }
 {
     neg(key, atom, others, out)?;
     ex(alloc, index, atom, others, out)?;
@@ -120,7 +125,9 @@ fn on_exist(
     out: &mut Vec<Clause>,
 ) -> Result<(), Memory>
     requires choices { (k : ℕ) → OneOf k choices.now → k < length clauses.now }
-    ensures { Appends Among (IsOfExist index.now.normal (IsPicked clauses.now choices.now) backs.now deads.now role key.now others.now) (IsOk result) out.old.items out.new.items }
+    ensures { Appends Among (IsOfExist index.now.normal
+        (IsPicked clauses.now choices.now) backs.now deads.now role key.now others.now)
+        (IsOk result) out.old.items out.new.items }
 {
     back_from(index, backs, role, key, others, out)?;
     dead_from(deads, role, key, others, out)?;

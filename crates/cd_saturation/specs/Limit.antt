@@ -17,7 +17,9 @@ HasReached n max_contexts max_facts Facts number = HasFacts n number × (max_fac
 
 -- so it is with a structural normal form of the document
 abbrev pub IsReached : Document → ℕ → ℕ → LimitKind → ℕ → Type 0
-IsReached document max_contexts max_facts kind number = (n : Normal) × IsStructuralNormalForm document n × HasReached n max_contexts max_facts kind number
+IsReached document max_contexts max_facts kind number =
+    (n : Normal) × IsStructuralNormalForm document n
+    × HasReached n max_contexts max_facts kind number
 
 -- why there are no answers where a core has stopped
 abbrev pub halt_of : {A : Type 0} → Stop A → Halt
@@ -26,5 +28,6 @@ halt_of Stop.Memory = Memory
 
 -- a run that ends so has reached a maximum, or has run out of memory
 abbrev pub HasHalted : Normal → ℕ → ℕ → Halt → Type 0
-HasHalted n max_contexts max_facts (Limit kind number) = HasReached n max_contexts max_facts kind number
+HasHalted n max_contexts max_facts (Limit kind number) =
+    HasReached n max_contexts max_facts kind number
 HasHalted n max_contexts max_facts Memory = Unit {0}

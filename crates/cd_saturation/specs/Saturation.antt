@@ -17,7 +17,8 @@ HasClosure n = (below : ℕ → ℕ → Bool) × IsClosure n below
 
 -- a cell without contexts, at that place of so many
 abbrev pub new_cell : Normal → ℕ → ℕ → CellState
-new_cell n count number = record { number = number; cells = count; normal = n; contexts = []; failed = false }
+new_cell n count number = record { number = number; cells = count; normal = n; contexts = [];
+    failed = false }
 
 -- so many cells without contexts, one at each place
 pub record AreNew (n : Normal) (count : ℕ) (cells : List CellState) : Type 0 where
@@ -38,7 +39,8 @@ pub record AreStarts (count classes : ℕ) (start : List (ℕ × Note)) : Type 0
   pub every : (a : ℕ) → a < classes → OneOf (start_of count a) start
 
 -- a core over new cells, where the messages pend that begin the contexts of the first classes
-pub record IsCoreBegun (n : Normal) (count classes : ℕ) (core : List CellState × List (ℕ × Note) × Bool) : Type 0 where
+pub record IsCoreBegun (n : Normal) (count classes : ℕ)
+    (core : List CellState × List (ℕ × Note) × Bool) : Type 0 where
   pub new : AreNew n count core.0
   pub starts : (a : ℕ) → a < classes → OneOf (start_of count a) core.1
 
@@ -48,4 +50,5 @@ IsBegun count cells a = (c : CellState) × At cells (place_for count a) c × Has
 
 -- the answer is that of the class's context in its cell
 abbrev pub IsSubsumersInCells : ℕ → List CellState → ℕ → Answer → Type 0
-IsSubsumersInCells count cells a answer = (c : CellState) → At cells (place_for count a) c → IsSubsumersIn c.normal c.contexts a answer
+IsSubsumersInCells count cells a answer = (c : CellState) → At cells (place_for count a) c
+    → IsSubsumersIn c.normal c.contexts a answer

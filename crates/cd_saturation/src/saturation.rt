@@ -24,8 +24,10 @@ pub fn saturate<'a>(
 ) -> Result<Vec<Cell<'a>>, Halt>
     requires named { (a : ℕ) → a < classes → is_named index.now.normal a ≡ true }
     ensures closed { IfOk result (λ cells. AreSettled index.now.normal cells.items) }
-    ensures begun { IfOk result (λ cells. (a : ℕ) → a < classes → IsBegun limits.now.cells cells.items a) }
-    ensures halted { IfErr result (HasHalted index.now.normal limits.now.max_contexts limits.now.max_facts) }
+    ensures begun { IfOk result (λ cells. (a : ℕ) → a < classes
+        → IsBegun limits.now.cells cells.items a) }
+    ensures halted { IfErr result
+        (HasHalted index.now.normal limits.now.max_contexts limits.now.max_facts) }
 {
     let core = begun_core(alloc, index, classes, limits.cells)?;
     let cells = core.finish(alloc, limits)?;

@@ -44,9 +44,11 @@ fn all_answers(
 ) -> Result<Vec<Answer>, Memory>
     requires count { 0 < count }
     requires begun { (a : ℕ) → a < classes → IsBegun count cells.now a }
-    requires named { (a : ℕ) → a < classes → (i : ℕ) (c : CellState) → At cells.now i c → is_named c.normal a ≡ true }
+    requires named { (a : ℕ) → a < classes → (i : ℕ) (c : CellState) → At cells.now i c
+        → is_named c.normal a ≡ true }
     ensures each { IfOk result (λ above. length above.items ≡ classes) }
-    ensures are { IfOk result (λ above. (a : ℕ) (answer : Answer) → At above.items a answer → IsSubsumersInCells count cells.now a answer) }
+    ensures are { IfOk result (λ above. (a : ℕ) (answer : Answer) → At above.items a answer
+        → IsSubsumersInCells count cells.now a answer) }
 {
     let mut above = Vec::new(alloc);
     'classes: for class in 0..classes {

@@ -25,10 +25,12 @@ pub record IsStore (clauses : List (List Elem)) (live : List ℕ) : Type 0 where
   pub covered : (c : List Elem) → OneOf c clauses → Redundant (picked clauses live) c
   pub apart : ContainsNoEarlier (reverse clauses)
   -- no live clause contains another
-  pub minimal : (m k : ℕ) → OneOf m live → OneOf k live → Within (slice_index_or clauses m []) (slice_index_or clauses k []) → m ≡ k
+  pub minimal : (m k : ℕ) → OneOf m live → OneOf k live
+      → Within (slice_index_or clauses m []) (slice_index_or clauses k []) → m ≡ k
 
 -- the least of the live numbers whose clauses are subsets of this clause
-pub record IsHeld (clauses : List (List Elem)) (live : List ℕ) (clause : List Elem) (i : ℕ) : Type 0 where
+pub record IsHeld (clauses : List (List Elem)) (live : List ℕ) (clause : List Elem)
+    (i : ℕ) : Type 0 where
   pub isin : OneOf i live
   pub within : Within (slice_index_or clauses i []) clause
   pub least : (j : ℕ) → OneOf j live → Within (slice_index_or clauses j []) clause → i ≤ j
@@ -41,7 +43,8 @@ pub record IsAdded (new : List Elem) (before after : List (List Elem)) : Type 0 
   pub kept : (c : List Elem) → OneOf c before → OneOf c after ⊎ Within new c
 
 -- the clause is stored under the next number, live, and its live supersets are dead
-pub record IsNew (old : List (List Elem) × List ℕ) (clause : List Elem) (new : List (List Elem) × List ℕ) (n : ℕ) : Type 0 where
+pub record IsNew (old : List (List Elem) × List ℕ) (clause : List Elem)
+    (new : List (List Elem) × List ℕ) (n : ℕ) : Type 0 where
   -- the next number
   pub next : n ≡ length old.0
   -- nothing stored is forgotten
@@ -55,6 +58,7 @@ pub record IsNew (old : List (List Elem) × List ℕ) (clause : List Elem) (new 
   pub not_held : Redundant (picked old.0 old.1) clause → ⊥
 
 -- what adding a clause comes to
-abbrev pub IsOutcome : List (List Elem) × List ℕ → List Elem → List (List Elem) × List ℕ → Added → Type 0
+abbrev pub IsOutcome : List (List Elem) × List ℕ → List Elem → List (List Elem) × List ℕ → Added
+    → Type 0
 IsOutcome old clause new (New n) = IsNew old clause new n
 IsOutcome old clause new (Held i) = IsHeld old.0 old.1 clause i × (new ≡ old)

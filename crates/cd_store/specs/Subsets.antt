@@ -4,7 +4,8 @@ use Rattle.cd_base.specs.Lists.{OneOf, Within}
 use Rattle.cd_clause.specs.declared.elem.Elem.{Elem}
 
 -- the number is live, and its clause is a subset of this clause
-pub record IsSubset (clauses : List (List Elem)) (live : List ℕ) (clause : List Elem) (n : ℕ) : Type 0 where
+pub record IsSubset (clauses : List (List Elem)) (live : List ℕ) (clause : List Elem)
+    (n : ℕ) : Type 0 where
   pub isin : OneOf n live
   pub within : Within (slice_index_or clauses n []) clause
 

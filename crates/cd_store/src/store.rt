@@ -45,7 +45,8 @@ impl Model for Store {
 
     ghost view = { λ s. (s.clauses.items, s.live.items) };
 
-    ghost invariant = { λ s. IsStore s.clauses.items s.live.items × AreFiled s.filing s.clauses.items };
+    ghost invariant = { λ s. IsStore s.clauses.items s.live.items
+        × AreFiled s.filing s.clauses.items };
 }
 
 impl Store {
@@ -123,7 +124,8 @@ impl Store {
     /// Appends the number of each stored clause, live or dead, that has the atom, and maybe others. Two look-ups, and linear in what is
     /// appended.
     pub fn push_with_atom(&self, atom: Atom, found: &mut Vec<usize>) -> Result<(), Memory>
-        ensures { OnOk result (Gains (HasElem self.now.0 (Plain atom)) found.old.items found.new.items) }
+        ensures { OnOk result (Gains (HasElem self.now.0 (Plain atom)) found.old.items
+            found.new.items) }
     {
         found.extend_from_slice(self.filing.ending_in_atom(atom))?;
         found.extend_from_slice(self.filing.going_on_from_atom(atom))?;
@@ -138,7 +140,8 @@ impl Store {
         key: &Key,
         found: &mut Vec<usize>,
     ) -> Result<(), Memory>
-        ensures { OnOk result (Gains (HasElem self.now.0 (Exist role key.now)) found.old.items found.new.items) }
+        ensures { OnOk result (Gains (HasElem self.now.0 (Exist role key.now)) found.old.items
+            found.new.items) }
     {
         found.extend_from_slice(self.filing.ending_in_existential(role, key))?;
         found.extend_from_slice(self.filing.going_on_from_existential(role, key))?;
@@ -157,7 +160,9 @@ impl Store {
     /// Numbers, those of all atoms of stored clauses among them, each at most twice; `None` where there are more than `at_most` of them, which
     /// is a matter of cost alone. Linear in them.
     pub fn atom_numbers(&self, alloc: Global, at_most: usize) -> Result<Option<Vec<u64>>, Memory>
-        ensures { IfOk result (λ some. IfSome some (λ numbers. (a n : ℕ) → HasElem self.now.0 (Plain a) n → OneOf a numbers.items)) }
+        ensures { IfOk result (λ some.
+            IfSome some (λ numbers. (a n : ℕ) → HasElem self.now.0 (Plain a) n
+            → OneOf a numbers.items)) }
     {
         if self.filing.count() > at_most {
             return Ok(None);
@@ -180,7 +185,8 @@ fn replace(
 ) -> Result<(), Memory>
     requires store { IsStore clauses.now live.old.items }
     requires filed { AreFiled filing.now clauses.now }
-    ensures ok { OnOk result ((after : List ℕ) × Sifts clauses.now clause.now live.old.items after × (live.new.items ≡ after ++ number ∷ [])) }
+    ensures ok { OnOk result ((after : List ℕ) × Sifts clauses.now clause.now live.old.items after
+        × (live.new.items ≡ after ++ number ∷ [])) }
     ensures err { OnErr result (live.new.items ≡ live.old.items) }
 {
     let dead = live_supersets(alloc, filing, clauses, live.as_slice(), clause)?;
@@ -205,7 +211,8 @@ fn live_supersets(
 ) -> Result<Vec<usize>, Memory>
     requires store { IsStore clauses.now live.now }
     requires filed { AreFiled filing.now clauses.now }
-    ensures { IfOk result (λ dead. (n : ℕ) → OneOf n dead.items ↔ IsSuperset clauses.now live.now clause.now n) }
+    ensures { IfOk result (λ dead. (n : ℕ) → OneOf n dead.items
+        ↔ IsSuperset clauses.now live.now clause.now n) }
 {
     let mut dead = Vec::new(alloc);
     match clause.elems().last() {
@@ -228,8 +235,10 @@ fn push_supersets(
     found: &mut Vec<usize>,
 ) -> Result<(), Memory>
     requires { IsStore clauses.now live.now }
-    ensures every { OnOk result (Gains (λ n. OneOf n numbers.now × IsSuperset clauses.now live.now clause.now n) found.old.items found.new.items) }
-    ensures only { OnOk result ((n : ℕ) → OneOf n found.new.items → OneOf n found.old.items ⊎ IsSuperset clauses.now live.now clause.now n) }
+    ensures every { OnOk result (Gains (λ n. OneOf n numbers.now
+        × IsSuperset clauses.now live.now clause.now n) found.old.items found.new.items) }
+    ensures only { OnOk result ((n : ℕ) → OneOf n found.new.items
+        → OneOf n found.old.items ⊎ IsSuperset clauses.now live.now clause.now n) }
 {
     'numbers: for i in 0..numbers.len() {
         let number = numbers[i];

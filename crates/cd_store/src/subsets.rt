@@ -21,7 +21,8 @@ pub(crate) fn find_subset(
 ) -> Option<usize>
     requires store { IsStore clauses.now live.now }
     requires filed { AreFiled filing.now clauses.now }
-    ensures { MatchOption result (Redundant (picked clauses.now live.now) clause.now → ⊥) (λ i. IsHeld clauses.now live.now clause.now i) }
+    ensures { MatchOption result (Redundant (picked clauses.now live.now) clause.now → ⊥)
+        (λ i. IsHeld clauses.now live.now clause.now i) }
 {
     let first = first_subset(clauses, live, clause);
     least_by_elems(filing, clauses, live, clause, first)
@@ -32,7 +33,8 @@ pub(crate) fn find_subset(
 fn first_subset(clauses: &[Clause], live: &[usize], clause: &Clause) -> Option<usize>
     requires { IsStore clauses.now live.now }
     ensures holds { HoldsSubset clauses.now live.now clause.now result }
-    ensures empty { (n : ℕ) → OneOf n live.now → slice_index_or clauses.now n [] ≡ [] → IsAtMost result n }
+    ensures empty { (n : ℕ) → OneOf n live.now → slice_index_or clauses.now n [] ≡ []
+        → IsAtMost result n }
 {
     match live {
         [] => None,
@@ -52,7 +54,9 @@ fn least_by_elems(
     requires holds { HoldsSubset clauses.now live.now clause.now found }
     ensures holds { HoldsSubset clauses.now live.now clause.now result }
     ensures lower { (n : ℕ) → IsAtMost found n → IsAtMost result n }
-    ensures covers { (e : Elem) (n : ℕ) → OneOf e clause.now → OneOf n (listed filing.now (ends_in e)) → IsSubset clauses.now live.now clause.now n → IsAtMost result n }
+    ensures covers { (e : Elem) (n : ℕ) → OneOf e clause.now
+        → OneOf n (listed filing.now (ends_in e)) → IsSubset clauses.now live.now clause.now n
+        → IsAtMost result n }
 {
     let mut least = found;
     let mut rest = clause.elems();
@@ -75,7 +79,8 @@ fn least_among(
     requires holds { HoldsSubset clauses.now live.now clause.now found }
     ensures holds { HoldsSubset clauses.now live.now clause.now result }
     ensures lower { (n : ℕ) → IsAtMost found n → IsAtMost result n }
-    ensures covers { (n : ℕ) → OneOf n numbers.now → IsSubset clauses.now live.now clause.now n → IsAtMost result n }
+    ensures covers { (n : ℕ) → OneOf n numbers.now → IsSubset clauses.now live.now clause.now n
+        → IsAtMost result n }
 {
     let mut least = found;
     let mut rest = numbers;

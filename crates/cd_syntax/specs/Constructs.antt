@@ -84,4 +84,5 @@ text_in (e ∷ more) number = if e.1 == number then Some e.0 else text_in more n
 
 -- the word of a refused construct, or the short name of a refused role
 abbrev pub word_of : ℕ → Option (List ℕ)
-word_of number = text_in (refused_roles ++ refused_classes ++ refused_data ++ (codes "owl:topObjectProperty", 45) ∷ (codes "owl:bottomObjectProperty", 46) ∷ []) number
+word_of number = text_in (refused_roles ++ refused_classes ++ refused_data
+    ++ (codes "owl:topObjectProperty", 45) ∷ (codes "owl:bottomObjectProperty", 46) ∷ []) number

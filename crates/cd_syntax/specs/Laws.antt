@@ -14,7 +14,8 @@ HasOneReading = (bytes : List ℕ) (a b : Known) → IsDocument bytes a → IsDo
 
 -- what is known at the end of a document is what a document may have, and its classes have full IRIs for names
 abbrev pub KnownIsSound : Type 0
-KnownIsSound = (bytes : List ℕ) (known : Known) → IsDocument bytes known → IsSound known × All IsIri known.classes
+KnownIsSound = (bytes : List ℕ) (known : Known) → IsDocument bytes known
+    → IsSound known × All IsIri known.classes
 
 -- a text has no two first faults
 abbrev pub HasOneFault : Type 0
@@ -22,8 +23,10 @@ HasOneFault = (bytes : List ℕ) (r s : Refusal) → IsFaulty bytes r → IsFaul
 
 -- a text that is a document has no fault
 abbrev pub HasNoFaultWhereRead : Type 0
-HasNoFaultWhereRead = (bytes : List ℕ) (known : Known) (r : Refusal) → IsDocument bytes known → IsFaulty bytes r → ⊥
+HasNoFaultWhereRead = (bytes : List ℕ) (known : Known) (r : Refusal) → IsDocument bytes known
+    → IsFaulty bytes r → ⊥
 
 -- a text of fewer than 2^31 bytes is a document or has a first fault
 abbrev pub IsReadOrFaulty : Type 0
-IsReadOrFaulty = (bytes : List ℕ) → length bytes < 2 ^ 31 → ((document : Document) × IsRead bytes document) ⊎ ((r : Refusal) × IsFaulty bytes r)
+IsReadOrFaulty = (bytes : List ℕ) → length bytes < 2 ^ 31
+    → ((document : Document) × IsRead bytes document) ⊎ ((r : Refusal) × IsFaulty bytes r)

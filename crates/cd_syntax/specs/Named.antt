@@ -31,10 +31,12 @@ is_role i = not (bytes_eq i top_role) && not (bytes_eq i bottom_role)
 -- a class of this IRI, by its number
 abbrev pub IsClassNamed : Option (List ℕ) → Known → Known → Option ℕ → Type 0
 IsClassNamed None known after found = (found ≡ None) × (after ≡ known)
-IsClassNamed (Some i) known after found = (found ≡ Some (number known.classes i)) × (after ≡ with_class known i)
+IsClassNamed (Some i) known after found =
+    (found ≡ Some (number known.classes i)) × (after ≡ with_class known i)
 
 abbrev pub IsRoleIf : Bool → List ℕ → Known → Known → Option ℕ → Type 0
-IsRoleIf true i known after found = (found ≡ Some (number known.roles i)) × (after ≡ with_role known i)
+IsRoleIf true i known after found =
+    (found ≡ Some (number known.roles i)) × (after ≡ with_role known i)
 IsRoleIf false i known after found = (found ≡ None) × (after ≡ known)
 
 -- a role of this IRI, by its number, if it may be one

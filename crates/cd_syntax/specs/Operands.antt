@@ -77,7 +77,8 @@ wants_head form heads parts = parts == 0 && (nat_lt heads (heads_of form) || has
 
 -- behind so many heads and parts another part may stand
 abbrev pub wants_part : Form → ℕ → ℕ → Bool
-wants_part form heads parts = heads == heads_of form && (nat_lt parts (parts_of form) || has_more_parts form)
+wants_part form heads parts =
+    heads == heads_of form && (nat_lt parts (parts_of form) || has_more_parts form)
 
 -- its head is a class
 abbrev pub has_class_head : Form → Bool

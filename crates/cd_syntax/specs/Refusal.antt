@@ -20,7 +20,8 @@ refusal_at Depth place = Refusal.Depth place
 refusal_at Syntax place = Refusal.Syntax place
 
 -- the text has this first fault, behind these pieces
-pub record IsFaultyBehind (bytes : List ℕ) (refusal : Refusal) (pieces : List Piece) (rest : List ℕ) (next : Next) (cause : Cause) : Type 0 where
+pub record IsFaultyBehind (bytes : List ℕ) (refusal : Refusal) (pieces : List Piece)
+    (rest : List ℕ) (next : Next) (cause : Cause) : Type 0 where
   pub cut : IsCut bytes pieces rest
   pub next_is : IsNext rest next
   pub fault : IsFault (kinds pieces) next cause
@@ -28,7 +29,8 @@ pub record IsFaultyBehind (bytes : List ℕ) (refusal : Refusal) (pieces : List 
 
 -- the text has this first fault
 abbrev pub IsFaulty : List ℕ → Refusal → Type 0
-IsFaulty bytes refusal = (pieces : List Piece) × (rest : List ℕ) × (next : Next) × (cause : Cause) × IsFaultyBehind bytes refusal pieces rest next cause
+IsFaulty bytes refusal = (pieces : List Piece) × (rest : List ℕ) × (next : Next) × (cause : Cause)
+    × IsFaultyBehind bytes refusal pieces rest next cause
 
 -- an input is refused so, of which at most so many bytes are taken
 abbrev pub IsRefused : List ℕ → ℕ → Refusal → Type 0

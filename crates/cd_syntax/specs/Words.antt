@@ -61,4 +61,5 @@ first_key None None None None = Other
 
 -- what the word is to the grammar
 abbrev pub key_of : List ℕ → Keyword
-key_of w = first_key (entry axiom_forms w) (entry expr_forms w) (entry other_words w) (refused_number w)
+key_of w = first_key (entry axiom_forms w) (entry expr_forms w) (entry other_words w)
+    (refused_number w)

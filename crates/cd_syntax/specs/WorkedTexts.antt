@@ -11,7 +11,8 @@ use Rattle.cd_syntax.specs.Grammar.{IsRead}
 use Rattle.cd_syntax.specs.Refusal.{IsFaulty, IsRefused}
 
 -- the text is a document with these axioms, with these classes behind owl:Thing and owl:Nothing, and with these roles
-pub record IsReadAs (text : List ℕ) (axioms : List Axiom) (classes roles : List (List ℕ)) : Type 0 where
+pub record IsReadAs (text : List ℕ) (axioms : List Axiom)
+    (classes roles : List (List ℕ)) : Type 0 where
   pub document : Document
   pub read : IsRead text document
   pub axioms_are : document.axioms ≡ axioms
@@ -21,11 +22,15 @@ pub record IsReadAs (text : List ℕ) (axioms : List Axiom) (classes roles : Lis
 -- a subsumption in which so many complements stand inside each other
 abbrev pub nested_complements : ℕ → List ℕ
 nested_complements n =
-    codes "Ontology(SubClassOf(<x:A> " ++ iterate (λ (inner : List ℕ). codes "ObjectComplementOf(" ++ inner ++ codes ")") n (codes "<x:B>") ++ codes "))"
+    codes "Ontology(SubClassOf(<x:A> "
+        ++ iterate (λ (inner : List ℕ). codes "ObjectComplementOf(" ++ inner ++ codes ")") n
+        (codes "<x:B>") ++ codes "))"
 
 -- an ontology in which so many annotations stand inside each other
 abbrev pub nested_annotations : ℕ → List ℕ
-nested_annotations n = codes "Ontology(" ++ iterate (λ (inner : List ℕ). codes "Annotation(" ++ inner ++ codes "rdfs:label \"a\")") n [] ++ codes ")"
+nested_annotations n = codes "Ontology("
+    ++ iterate (λ (inner : List ℕ). codes "Annotation(" ++ inner ++ codes "rdfs:label \"a\")") n []
+    ++ codes ")"
 
 -- each of these texts is the document that was written down for it
 pub record WorkedDocuments : Type 0 where
@@ -35,28 +40,40 @@ pub record WorkedDocuments : Type 0 where
   pub subsumption : IsReadAs (codes "Ontology(SubClassOf(<x:A> <x:B>))")
       (SubClass (Name 2) (Name 3) ∷ []) (codes "x:A" ∷ codes "x:B" ∷ []) []
   -- classes, and roles apart from them, go by number in the order in which they first occur
-  pub restriction : IsReadAs (codes "Ontology(EquivalentClasses(<x:A> ObjectIntersectionOf(<x:B> ObjectSomeValuesFrom(<x:R> <x:A>))))")
-      (SameClasses (Name 2 ∷ Meet (Name 3 ∷ SomeOf 0 (Name 2) ∷ []) ∷ []) ∷ []) (codes "x:A" ∷ codes "x:B" ∷ []) (codes "x:R" ∷ [])
+  pub restriction : IsReadAs (codes
+      "Ontology(EquivalentClasses(<x:A> ObjectIntersectionOf(<x:B> ObjectSomeValuesFrom(<x:R> <x:A>))))")
+      (SameClasses (Name 2 ∷ Meet (Name 3 ∷ SomeOf 0 (Name 2) ∷ []) ∷ []) ∷ [])
+          (codes "x:A" ∷ codes "x:B" ∷ []) (codes "x:R" ∷ [])
   -- the other constructors of class expressions, and owl:Thing by its standard prefix
-  pub expression : IsReadAs (codes "Ontology(SubClassOf(ObjectUnionOf(<x:B> ObjectComplementOf(<x:A>)) ObjectAllValuesFrom(<x:R> owl:Thing)))")
-      (SubClass (Join (Name 2 ∷ Minus (Name 3) ∷ [])) (AllOf 0 (Name 0)) ∷ []) (codes "x:B" ∷ codes "x:A" ∷ []) (codes "x:R" ∷ [])
+  pub expression : IsReadAs (codes
+      "Ontology(SubClassOf(ObjectUnionOf(<x:B> ObjectComplementOf(<x:A>)) ObjectAllValuesFrom(<x:R> owl:Thing)))")
+      (SubClass (Join (Name 2 ∷ Minus (Name 3) ∷ [])) (AllOf 0 (Name 0)) ∷ [])
+          (codes "x:B" ∷ codes "x:A" ∷ []) (codes "x:R" ∷ [])
   -- one operand is enough for an intersection or a union
   pub one_operand : IsReadAs (codes "Ontology(SubClassOf(<x:A> ObjectIntersectionOf(<x:B>)))")
       (SubClass (Name 2) (Meet (Name 3 ∷ [])) ∷ []) (codes "x:A" ∷ codes "x:B" ∷ []) []
   -- a disjoint union begins with a class
-  pub disjointness : IsReadAs (codes "Ontology(DisjointUnion(<x:A> <x:B> <x:C>) DisjointClasses(<x:B> owl:Nothing))")
-      (DisjointUnion 2 (Name 3 ∷ Name 4 ∷ []) ∷ Disjoint (Name 3 ∷ Name 1 ∷ []) ∷ []) (codes "x:A" ∷ codes "x:B" ∷ codes "x:C" ∷ []) []
+  pub disjointness : IsReadAs (codes
+      "Ontology(DisjointUnion(<x:A> <x:B> <x:C>) DisjointClasses(<x:B> owl:Nothing))")
+      (DisjointUnion 2 (Name 3 ∷ Name 4 ∷ []) ∷ Disjoint (Name 3 ∷ Name 1 ∷ []) ∷ [])
+          (codes "x:A" ∷ codes "x:B" ∷ codes "x:C" ∷ []) []
   -- axioms on roles
-  pub roles : IsReadAs (codes "Ontology(SubObjectPropertyOf(<x:R> <x:S>) EquivalentObjectProperties(<x:S> <x:T>))")
+  pub roles : IsReadAs
+      (codes "Ontology(SubObjectPropertyOf(<x:R> <x:S>) EquivalentObjectProperties(<x:S> <x:T>))")
       (SubRole 0 1 ∷ SameRoles (1 ∷ 2 ∷ []) ∷ []) [] (codes "x:R" ∷ codes "x:S" ∷ codes "x:T" ∷ [])
   -- a domain and a range
-  pub domain_and_range : IsReadAs (codes "Ontology(ObjectPropertyDomain(<x:R> <x:A>) ObjectPropertyRange(<x:R> <x:B>))")
-      (Domain 0 (Name 2) ∷ Range 0 (Name 3) ∷ []) (codes "x:A" ∷ codes "x:B" ∷ []) (codes "x:R" ∷ [])
+  pub domain_and_range : IsReadAs
+      (codes "Ontology(ObjectPropertyDomain(<x:R> <x:A>) ObjectPropertyRange(<x:R> <x:B>))")
+      (Domain 0 (Name 2) ∷ Range 0 (Name 3) ∷ []) (codes "x:A" ∷ codes "x:B" ∷ [])
+          (codes "x:R" ∷ [])
   -- a short name and a full IRI are one class, and a comment ends with its line
-  pub short_names : IsReadAs (codes "Prefix(p:=<x:>) # )\nOntology(SubClassOf(p:A <x:B>) SubClassOf(p:B <x:A>))")
-      (SubClass (Name 2) (Name 3) ∷ SubClass (Name 3) (Name 2) ∷ []) (codes "x:A" ∷ codes "x:B" ∷ []) []
+  pub short_names : IsReadAs (codes
+      "Prefix(p:=<x:>) # )\nOntology(SubClassOf(p:A <x:B>) SubClassOf(p:B <x:A>))")
+      (SubClass (Name 2) (Name 3) ∷ SubClass (Name 3) (Name 2) ∷ [])
+          (codes "x:A" ∷ codes "x:B" ∷ []) []
   -- a prefix may be declared twice with one IRI
-  pub same_prefix : IsReadAs (codes "Prefix(:=<x:>)Prefix(:=<x:>)Ontology(Declaration(Class(:A)))") [] (codes "x:A" ∷ []) []
+  pub same_prefix : IsReadAs (codes "Prefix(:=<x:>)Prefix(:=<x:>)Ontology(Declaration(Class(:A)))")
+      [] (codes "x:A" ∷ []) []
   -- annotations say nothing of classes: with a string that has escapes, with a language, and with a datatype
   pub annotations : IsReadAs
       (codes "Ontology(<x:o> Annotation(rdfs:label \"\\\"A\\\\\"@en) SubClassOf(Annotation(rdfs:comment \"1\"^^xsd:int) <x:A> owl:Thing))")
@@ -65,10 +82,12 @@ pub record WorkedDocuments : Type 0 where
   pub annotation_axioms : IsReadAs
       (codes "Ontology(<x:o> <x:v> AnnotationAssertion(rdfs:label _:a \"A\") AnnotationPropertyDomain(<x:a> <x:A>))") [] [] []
   -- a declaration makes a class, which no axiom needs to have, and nothing of any other entity
-  pub declarations : IsReadAs (codes "Ontology(Declaration(Class(<x:A>)) Declaration(ObjectProperty(owl:topObjectProperty)))")
+  pub declarations : IsReadAs (codes
+      "Ontology(Declaration(Class(<x:A>)) Declaration(ObjectProperty(owl:topObjectProperty)))")
       [] (codes "x:A" ∷ []) []
   -- a class that is declared first has the first number
-  pub declared_first : IsReadAs (codes "Ontology(Declaration(Class(<x:B>)) SubClassOf(<x:A> <x:B>))")
+  pub declared_first : IsReadAs
+      (codes "Ontology(Declaration(Class(<x:B>)) SubClassOf(<x:A> <x:B>))")
       (SubClass (Name 3) (Name 2) ∷ []) (codes "x:B" ∷ codes "x:A" ∷ []) []
   -- 256 constructors may stand inside each other
   pub most_constructors : IsReadAs (nested_complements 256)
@@ -101,15 +120,20 @@ pub record WorkedFaults : Type 0 where
   -- the quotation mark of a string that does not end
   pub open_string : IsFaulty (codes "Ontology(Annotation(rdfs:label \"a))") (Syntax 31)
   -- an anonymous individual without a name
-  pub nameless_node : IsFaulty (codes "Ontology(AnnotationAssertion(rdfs:label _: \"a\"))") (Syntax 40)
+  pub nameless_node : IsFaulty (codes "Ontology(AnnotationAssertion(rdfs:label _: \"a\"))")
+      (Syntax 40)
   -- the inverse of a role, at its word
-  pub inverse : IsFaulty (codes "Ontology(SubClassOf(<x:A> ObjectInverseOf(<x:R>)))") (Construct 2 26)
+  pub inverse : IsFaulty (codes "Ontology(SubClassOf(<x:A> ObjectInverseOf(<x:R>)))")
+      (Construct 2 26)
   -- a construct that is refused, wherever it stands
   pub key : IsFaulty (codes "Ontology() HasKey") (Construct 37 11)
   -- owl:topObjectProperty where a role is wanted
-  pub top_role : IsFaulty (codes "Ontology(SubObjectPropertyOf(<x:R> owl:topObjectProperty))") (Construct 45 35)
+  pub top_role : IsFaulty (codes "Ontology(SubObjectPropertyOf(<x:R> owl:topObjectProperty))")
+      (Construct 45 35)
   -- owl:bottomObjectProperty, also in full
-  pub bottom_role : IsFaulty (codes "Ontology(ObjectPropertyDomain(<http://www.w3.org/2002/07/owl#bottomObjectProperty> <x:A>))") (Construct 46 30)
+  pub bottom_role : IsFaulty (codes
+      "Ontology(ObjectPropertyDomain(<http://www.w3.org/2002/07/owl#bottomObjectProperty> <x:A>))")
+      (Construct 46 30)
   -- a prefix that isn't declared
   pub unknown_prefix : IsFaulty (codes "Ontology(SubClassOf(p:A <x:B>))") (Prefix 20)
   -- a prefix declared with two IRIs, at the second one

@@ -32,7 +32,8 @@ pub fn is_subject(known: &Known, item: &Item) -> bool
 /// The class that the item stands for, by its number. Two look-ups.
 pub fn class_of(alloc: Global, known: &mut Known, item: &Item) -> Result<Option<u32>, Memory>
     requires { length known.old.classes < 2 ^ 32 - 1 }
-    ensures { IfOk result (λ found. IsClassNamed (iri_of known.old item.now) known.old known.new found) }
+    ensures { IfOk result (λ found.
+        IsClassNamed (iri_of known.old item.now) known.old known.new found) }
 {
     match item {
         Item::FullIri(iri) => Ok(Some(known.classes.add(iri.items())?)),
@@ -51,7 +52,8 @@ pub fn class_of(alloc: Global, known: &mut Known, item: &Item) -> Result<Option<
 /// The role that the item stands for, by its number, if it may be one. Two look-ups.
 pub fn role_of(alloc: Global, known: &mut Known, item: &Item) -> Result<Option<u32>, Memory>
     requires { length known.old.roles < 2 ^ 32 - 1 }
-    ensures { IfOk result (λ found. IsRoleNamed (iri_of known.old item.now) known.old known.new found) }
+    ensures { IfOk result (λ found.
+        IsRoleNamed (iri_of known.old item.now) known.old known.new found) }
 {
     match item {
         Item::FullIri(iri) => role_named(known, iri.items()),

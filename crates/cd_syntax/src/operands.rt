@@ -247,7 +247,8 @@ fn join(heads: &Seq<u32>, parts: Seq<Expr>) -> Option<Expr>
 
 /// `ObjectComplementOf`: one expression. Section 8.1.3.
 fn minus(alloc: Global, heads: &Seq<u32>, parts: Seq<Expr>) -> Result<Option<Expr>, Memory>
-    ensures { IfOk result (λ made. made ≡ expression_of ExprForm.ObjectComplementOf heads.now parts) }
+    ensures { IfOk result (λ made. made
+        ≡ expression_of ExprForm.ObjectComplementOf heads.now parts) }
 {
     if !heads.items().is_empty() {
         return Ok(None);
@@ -260,7 +261,8 @@ fn minus(alloc: Global, heads: &Seq<u32>, parts: Seq<Expr>) -> Result<Option<Exp
 
 /// `ObjectSomeValuesFrom`: a role and an expression. Section 8.2.1.
 fn some_of(alloc: Global, heads: &Seq<u32>, parts: Seq<Expr>) -> Result<Option<Expr>, Memory>
-    ensures { IfOk result (λ made. made ≡ expression_of ExprForm.ObjectSomeValuesFrom heads.now parts) }
+    ensures { IfOk result (λ made. made
+        ≡ expression_of ExprForm.ObjectSomeValuesFrom heads.now parts) }
 {
     let (Some(role), Some(part)) = (only(heads), one(parts)) else {
         return Ok(None);
@@ -270,7 +272,8 @@ fn some_of(alloc: Global, heads: &Seq<u32>, parts: Seq<Expr>) -> Result<Option<E
 
 /// `ObjectAllValuesFrom`: a role and an expression. Section 8.2.2.
 fn all_of(alloc: Global, heads: &Seq<u32>, parts: Seq<Expr>) -> Result<Option<Expr>, Memory>
-    ensures { IfOk result (λ made. made ≡ expression_of ExprForm.ObjectAllValuesFrom heads.now parts) }
+    ensures { IfOk result (λ made. made
+        ≡ expression_of ExprForm.ObjectAllValuesFrom heads.now parts) }
 {
     let (Some(role), Some(part)) = (only(heads), one(parts)) else {
         return Ok(None);

@@ -7,7 +7,8 @@ use Rattle.cd_taxonomy.specs.declared.parents.Candidate.{Candidate}
 
 -- d stands for its group, and has not as many superclasses as r
 abbrev pub is_candidate : List ℕ → List ℕ → ℕ → ℕ → Bool
-is_candidate representative_of counts r d = slice_index representative_of d == d && not (slice_index counts d == slice_index counts r)
+is_candidate representative_of counts r d =
+    slice_index representative_of d == d && not (slice_index counts d == slice_index counts r)
 
 abbrev pub with_count : List ℕ → ℕ → Candidate
 with_count counts d = record { class = d; superclasses = slice_index counts d }

@@ -24,5 +24,6 @@ abbrev pub lines_text : List (List ℕ) → List Group → List ℕ
 lines_text names gs =
     ended (codes "Ontology(")
     ++ flat_map (λ (g : Group). group_text names g.members) gs
-    ++ flat_map (λ (g : Group). parents_text names (head g) (parent_heads gs g)) (filter is_proper gs)
+    ++ flat_map (λ (g : Group). parents_text names (head g) (parent_heads gs g))
+    (filter is_proper gs)
     ++ ended (codes ")")

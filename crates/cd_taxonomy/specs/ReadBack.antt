@@ -14,5 +14,6 @@ pub record AreNames (names : List (List ℕ)) : Type 0 where
 
 -- Read back, the text of a relation says that relation.
 abbrev pub TextReadsBack : Type 0
-TextReadsBack = (names : List (List ℕ)) (below : ℕ → ℕ → Bool) → AreNames names → IsSubsumption (length names) below
+TextReadsBack = (names : List (List ℕ)) (below : ℕ → ℕ → Bool) → AreNames names
+    → IsSubsumption (length names) below
     → SaysRelation names below (text names below)

@@ -21,6 +21,7 @@ HasClassesBelow n (Of atoms) = All (λ (atom : ℕ). atom < n) atoms
 -- reflexive and transitive on the numbers below n, with owl:Thing above all and owl:Nothing below all
 pub record IsSubsumption (n : ℕ) (below : ℕ → ℕ → Bool) : Type 0 where
   pub reflexive : (a : ℕ) → a < n → IsTrue (below a a)
-  pub transitive : (a b c : ℕ) → a < n → b < n → c < n → IsTrue (below a b) → IsTrue (below b c) → IsTrue (below a c)
+  pub transitive : (a b c : ℕ) → a < n → b < n → c < n → IsTrue (below a b) → IsTrue (below b c)
+      → IsTrue (below a c)
   pub thing : (a : ℕ) → a < n → IsTrue (below a 0)
   pub nothing : (a : ℕ) → a < n → IsTrue (below 1 a)

@@ -25,4 +25,5 @@ pub record ArePlaces (n : ℕ) (xs places : List ℕ) : Type 0 where
 
 -- the representative of each class
 abbrev pub representative_list : List (List ℕ) → List Answer → List ℕ
-representative_list names above = map (representative names (relation above)) (range_with_len 0 (length names))
+representative_list names above =
+    map (representative names (relation above)) (range_with_len 0 (length names))

@@ -9,7 +9,8 @@ use Rattle.cd_taxonomy.specs.Lines.{head, is_proper}
 use Rattle.cd_taxonomy.specs.Relation.{IsSubsumption}
 
 -- the groups are those of a subsumption between the classes of the document
-pub record IsTaxonomyOf (document : Document) (below : ℕ → ℕ → Bool) (gs : List Group) : Type 0 where
+pub record IsTaxonomyOf (document : Document) (below : ℕ → ℕ → Bool)
+    (gs : List Group) : Type 0 where
   pub subsumption : IsSubsumption (length document.classes) below
   pub grouped : gs ≡ groups document.classes below
 
@@ -26,7 +27,8 @@ module _ (names : List (List ℕ)) (below : ℕ → ℕ → Bool) where
 
   -- the classes other than owl:Nothing in its group
   abbrev pub unsatisfiable_count : ℕ
-  unsatisfiable_count = count_by (λ c. is_equivalent below c 1 && not (c == 1)) (classes_in_order names)
+  unsatisfiable_count = count_by (λ c. is_equivalent below c 1 && not (c == 1))
+      (classes_in_order names)
 
   -- the pairs of a group and a direct superclass that are printed
   abbrev pub link_count : ℕ

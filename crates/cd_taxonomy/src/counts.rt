@@ -24,7 +24,8 @@ pub(crate) fn superclasses(alloc: Global, n: u32, answer: &Answer) -> Result<Vec
 /// The numbers of these atoms, ascending and each once. Linear where they are ascending, else `n log n`.
 fn numbers(alloc: Global, atoms: &[Atom]) -> Result<Vec<u32>, Memory>
     ensures ascending { IfOk result (λ found. IsStrictlyIncreasing found.items) }
-    ensures listed { IfOk result (λ found. (b : ℕ) → Contains found.items b ↔ Contains atoms.now b) }
+    ensures listed { IfOk result (λ found. (b : ℕ) → Contains found.items b
+        ↔ Contains atoms.now b) }
 {
     let mut found = listed_numbers(alloc, atoms)?;
     found.sort_unstable();

@@ -24,8 +24,10 @@ pub fn taxonomy(alloc: Global, document: &Document, above: &[Answer]) -> Result<
     requires answered { length above.now ≡ length document.now.classes }
     requires within { All (HasClassesBelow (length document.now.classes)) above.now }
     requires subsumption { IsSubsumption (length document.now.classes) (relation above.now) }
-    ensures groups { IfOk result (λ found. found.groups ≡ groups document.now.classes (relation above.now)) }
-    ensures numbered { IfOk result (λ found. IsNumbered (length document.now.classes) found.groups) }
+    ensures groups { IfOk result (λ found. found.groups
+        ≡ groups document.now.classes (relation above.now)) }
+    ensures numbered { IfOk result
+        (λ found. IsNumbered (length document.now.classes) found.groups) }
 {
     let names = document.classes.items();
     let counts = superclass_counts(alloc, above)?;
@@ -65,16 +67,21 @@ struct Tables<'a> {
     ghost counted: { counts.now ≡ superclass_counts above.now },
     ghost ordered: { order.now ≡ classes_in_order document.now.classes },
     ghost placed: { ArePlaces (length document.now.classes) order.now place_of.now },
-    ghost represented: { representative_of.now ≡ representative_list document.now.classes above.now },
-    ghost numbered: { ArePlaces (length document.now.classes) (relation_representatives document.now.classes (relation above.now)) number_of.now },
+    ghost represented: { representative_of.now
+        ≡ representative_list document.now.classes above.now },
+    ghost numbered: { ArePlaces (length document.now.classes)
+        (relation_representatives document.now.classes (relation above.now)) number_of.now },
 }
 
 /// The groups of all representatives, in their order. The sum of what `group` takes for each.
 fn groups(alloc: Global, tables: &Tables, representatives: &[u32]) -> Result<Vec<Group>, Memory>
-    requires within { All (HasClassesBelow (length tables.now.document.now.classes)) tables.now.above.now }
+    requires within { All (HasClassesBelow (length tables.now.document.now.classes))
+        tables.now.above.now }
     requires classes { All (λ c. c < length tables.now.document.now.classes) representatives.now }
-    requires chosen { representatives.now ≡ relation_representatives tables.now.document.now.classes (relation tables.now.above.now) }
-    ensures { IfOk result (λ found. found.items ≡ groups tables.now.document.now.classes (relation tables.now.above.now)) }
+    requires chosen { representatives.now
+        ≡ relation_representatives tables.now.document.now.classes (relation tables.now.above.now) }
+    ensures { IfOk result (λ found. found.items
+        ≡ groups tables.now.document.now.classes (relation tables.now.above.now)) }
 {
     let mut groups = Vec::new(alloc);
     for r in representatives {
@@ -85,9 +92,11 @@ fn groups(alloc: Global, tables: &Tables, representatives: &[u32]) -> Result<Vec
 
 /// The group of a representative. `n log n` in its own answer at most, and linear in the answers of its direct superclasses.
 fn group(alloc: Global, tables: &Tables, r: u32) -> Result<Group, Memory>
-    requires within { All (HasClassesBelow (length tables.now.document.now.classes)) tables.now.above.now }
+    requires within { All (HasClassesBelow (length tables.now.document.now.classes))
+        tables.now.above.now }
     requires class { r < length tables.now.document.now.classes }
-    ensures { IfOk result (λ found. found ≡ group_at tables.now.document.now.classes (relation tables.now.above.now) r) }
+    ensures { IfOk result (λ found. found
+        ≡ group_at tables.now.document.now.classes (relation tables.now.above.now) r) }
 {
     let Tables {
         document,

@@ -29,8 +29,10 @@ pub(crate) fn members(
     requires counted { counts.now ≡ superclass_counts above.now }
     requires ordered { order.now ≡ classes_in_order document.now.classes }
     requires placed { ArePlaces (length document.now.classes) order.now places.now }
-    requires row { row.now ≡ superclasses (length document.now.classes) (slice_index_or above.now r Unsatisfiable) }
-    ensures { IfOk result (λ found. found.items ≡ members document.now.classes (relation above.now) r) }
+    requires row { row.now ≡ superclasses (length document.now.classes)
+        (slice_index_or above.now r Unsatisfiable) }
+    ensures { IfOk result (λ found. found.items
+        ≡ members document.now.classes (relation above.now) r) }
 {
     let mut found = other_places(alloc, counts, places, row, r)?;
     found.sort_unstable();
@@ -49,7 +51,8 @@ fn other_places(
     requires counted { All (λ c. c < length counts.now) row.now }
     requires placed { All (λ c. c < length places.now) row.now }
     ensures { IfOk result (λ found. found.items ≡ map (slice_index places.now)
-        (filter (λ c. not (c == r) && slice_index counts.now c == slice_index counts.now r) row.now)) }
+        (filter (λ c. not (c == r) && slice_index counts.now c
+        == slice_index counts.now r) row.now)) }
 {
     let count = counts[r as usize];
     let mut found = Vec::new(alloc);

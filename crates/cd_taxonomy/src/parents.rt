@@ -35,10 +35,14 @@ pub(crate) fn parents(
     requires within { All (HasClassesBelow (length document.now.classes)) above.now }
     requires subsumption { IsSubsumption (length document.now.classes) (relation above.now) }
     requires counted { counts.now ≡ superclass_counts above.now }
-    requires represented { representative_of.now ≡ representative_list document.now.classes above.now }
-    requires numbered { ArePlaces (length document.now.classes) (representatives document.now.classes (relation above.now)) numbers.now }
-    requires row { row.now ≡ superclasses (length document.now.classes) (slice_index_or above.now r Unsatisfiable) }
-    ensures { IfOk result (λ found. found.items ≡ map (group_number (representatives document.now.classes (relation above.now)))
+    requires represented { representative_of.now
+        ≡ representative_list document.now.classes above.now }
+    requires numbered { ArePlaces (length document.now.classes)
+        (representatives document.now.classes (relation above.now)) numbers.now }
+    requires row { row.now ≡ superclasses (length document.now.classes)
+        (slice_index_or above.now r Unsatisfiable) }
+    ensures { IfOk result (λ found. found.items
+        ≡ map (group_number (representatives document.now.classes (relation above.now)))
         (parents document.now.classes (relation above.now) r)) }
 {
     let mut candidates = candidates(alloc, counts, representative_of, row, r)?;
@@ -68,7 +72,9 @@ fn candidates(
     requires class { r < length counts.now }
     requires counted { All (λ d. d < length counts.now) row.now }
     requires represented { All (λ d. d < length representative_of.now) row.now }
-    ensures { IfOk result (λ found. found.items ≡ map (with_count counts.now) (filter (is_candidate representative_of.now counts.now r) row.now)) }
+    ensures { IfOk result (λ found. found.items
+        ≡ map (with_count counts.now)
+        (filter (is_candidate representative_of.now counts.now r) row.now)) }
 {
     let own = counts[r as usize];
     let mut found = Vec::new(alloc);
@@ -96,7 +102,8 @@ fn sort_by_superclasses(candidates: &mut Vec<Candidate>)
 /// those returned.
 fn uncovered(alloc: Global, above: &[Answer], candidates: &[Candidate]) -> Result<Vec<u32>, Memory>
     requires { All (λ candidate. candidate.class < length above.now) candidates.now }
-    ensures { IfOk result (λ found. found.items ≡ uncovered (covers above.now) (map class_of candidates.now)) }
+    ensures { IfOk result (λ found. found.items
+        ≡ uncovered (covers above.now) (map class_of candidates.now)) }
 {
     let mut covered = HashSet::new(alloc);
     let mut found = Vec::new(alloc);
@@ -111,7 +118,8 @@ fn uncovered(alloc: Global, above: &[Answer], candidates: &[Candidate]) -> Resul
 
 /// Adds the classes of an answer. Linear in the answer.
 fn cover(covered: &mut HashSet<u32>, answer: &Answer) -> Result<(), Memory>
-    ensures { OnOk result ((b : ℕ) → contains nat_eq covered.new b ≡ (contains nat_eq covered.old b || lists answer.now b)) }
+    ensures { OnOk result ((b : ℕ)
+        → contains nat_eq covered.new b ≡ (contains nat_eq covered.old b || lists answer.now b)) }
 {
     match answer {
         Answer::Unsatisfiable => Ok(()),
@@ -121,7 +129,9 @@ fn cover(covered: &mut HashSet<u32>, answer: &Answer) -> Result<(), Memory>
 
 /// Adds the classes of the atoms. Linear.
 fn cover_each(covered: &mut HashSet<u32>, atoms: &[Atom]) -> Result<(), Memory>
-    ensures { OnOk result ((b : ℕ) → contains nat_eq covered.new b ≡ (contains nat_eq covered.old b || list_any (λ (atom : ℕ). atom == b) atoms.now)) }
+    ensures { OnOk result ((b : ℕ)
+        → contains nat_eq covered.new b
+        ≡ (contains nat_eq covered.old b || list_any (λ (atom : ℕ). atom == b) atoms.now)) }
 {
     for atom in atoms {
         covered.insert(atom.number())?;

@@ -21,15 +21,19 @@ use std::alloc::Global;
 /// Linear in the classes and in the bytes of the text.
 pub fn text(alloc: Global, document: &Document, taxonomy: &Taxonomy) -> Result<Vec<u8>, Memory>
     requires { IsNumbered (length document.now.classes) taxonomy.now.groups }
-    ensures lines { IfOk result (λ bytes. bytes.items ≡ lines_text document.now.classes taxonomy.now.groups) }
+    ensures lines { IfOk result (λ bytes. bytes.items
+        ≡ lines_text document.now.classes taxonomy.now.groups) }
 
     // Of a taxonomy that has the groups of a relation, it is the text of that relation.
-    ensures relation { IfOk result (λ bytes. (below : ℕ → ℕ → Bool) → taxonomy.now.groups ≡ groups document.now.classes below
+    ensures relation { IfOk result (λ bytes. (below : ℕ → ℕ → Bool)
+        → taxonomy.now.groups ≡ groups document.now.classes below
         → bytes.items ≡ relation_text document.now.classes below) }
 
     // Read back, it says that relation, if the classes have full IRIs for names.
-    ensures read_back { IfOk result (λ bytes. (below : ℕ → ℕ → Bool) → taxonomy.now.groups ≡ groups document.now.classes below
-        → All IsIri document.now.classes → IsSubsumption (length document.now.classes) below → SaysRelation document.now.classes below bytes.items) }
+    ensures read_back { IfOk result (λ bytes. (below : ℕ → ℕ → Bool)
+        → taxonomy.now.groups ≡ groups document.now.classes below
+        → All IsIri document.now.classes → IsSubsumption (length document.now.classes) below
+        → SaysRelation document.now.classes below bytes.items) }
 {
     let names = document.classes.items();
     let groups = taxonomy.groups.items();
@@ -65,7 +69,8 @@ fn push_subclass_lines(
 ) -> Result<(), Memory>
     requires { IsNumbered (length names.now) groups.now }
     ensures { OnOk result (text.new.items ≡ text.old.items
-        ++ flat_map (λ group. parents_text names.now (head group) (parent_heads groups.now group)) (filter is_proper groups.now)) }
+        ++ flat_map (λ group. parents_text names.now (head group) (parent_heads groups.now group))
+        (filter is_proper groups.now)) }
 {
     for group in groups {
         if !has_reserved(group.members.items()) {
@@ -105,7 +110,8 @@ fn push_parents(
     requires class { class < length names.now }
     requires parents { All (λ p. p < length groups.now) parents.now }
     ensures { OnOk result (text.new.items ≡ text.old.items
-        ++ parents_text names.now class (map (λ p. head (slice_index_or groups.now p no_group)) parents.now)) }
+        ++ parents_text names.now class
+        (map (λ p. head (slice_index_or groups.now p no_group)) parents.now)) }
 {
     for parent in parents {
         let above = head(&groups[*parent as usize]);
@@ -131,7 +137,8 @@ fn push_line(
     classes: &[u32],
 ) -> Result<(), Memory>
     requires { All (λ c. c < length names.now) classes.now }
-    ensures { OnOk result (text.new.items ≡ text.old.items ++ ended (line names.now word.now classes.now)) }
+    ensures { OnOk result (text.new.items
+        ≡ text.old.items ++ ended (line names.now word.now classes.now)) }
 {
     text.extend_from_slice(word)?;
     text.push(b'(')?;

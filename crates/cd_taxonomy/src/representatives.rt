@@ -22,8 +22,10 @@ pub(crate) fn representative_list(
     requires within { All (HasClassesBelow (length document.now.classes)) above.now }
     requires subsumption { IsSubsumption (length document.now.classes) (relation above.now) }
     requires counted { counts.now ≡ superclass_counts above.now }
-    requires placed { ArePlaces (length document.now.classes) (classes_in_order document.now.classes) places.now }
-    ensures { IfOk result (λ found. found.items ≡ representative_list document.now.classes above.now) }
+    requires placed { ArePlaces (length document.now.classes)
+        (classes_in_order document.now.classes) places.now }
+    ensures { IfOk result (λ found. found.items
+        ≡ representative_list document.now.classes above.now) }
 {
     let n = above.len() as u32;
     let mut found = Vec::with_capacity(alloc, above.len())?;
@@ -46,7 +48,8 @@ fn representative(
     requires within { All (HasClassesBelow (length document.now.classes)) above.now }
     requires subsumption { IsSubsumption (length document.now.classes) (relation above.now) }
     requires counted { counts.now ≡ superclass_counts above.now }
-    requires placed { ArePlaces (length document.now.classes) (classes_in_order document.now.classes) places.now }
+    requires placed { ArePlaces (length document.now.classes)
+        (classes_in_order document.now.classes) places.now }
     ensures { result ≡ representative document.now.classes (relation above.now) c }
 {
     let Answer::Of(atoms) = &above[c as usize] else {
@@ -70,7 +73,8 @@ fn first_with_count(atoms: &[Atom], counts: &[u32], places: &[u32], c: u32) -> u
     requires placed { length places.now ≡ length counts.now }
     ensures counted { slice_index counts.now result ≡ slice_index counts.now c }
     ensures listed { Contains (c ∷ atoms.now) result }
-    ensures first { All (λ (atom : ℕ). slice_index counts.now atom ≡ slice_index counts.now c → slice_index places.now result ≤ slice_index places.now atom) atoms.now }
+    ensures first { All (λ (atom : ℕ). slice_index counts.now atom ≡ slice_index counts.now c
+        → slice_index places.now result ≤ slice_index places.now atom) atoms.now }
 {
     let count = counts[c as usize];
     let mut first = c;
@@ -92,8 +96,10 @@ pub(crate) fn representatives(
     representative_of: &[u32],
 ) -> Result<Vec<u32>, Memory>
     requires ordered { order.now ≡ classes_in_order document.now.classes }
-    requires represented { representative_of.now ≡ representative_list document.now.classes above.now }
-    ensures { IfOk result (λ found. found.items ≡ representatives document.now.classes (relation above.now)) }
+    requires represented { representative_of.now
+        ≡ representative_list document.now.classes above.now }
+    ensures { IfOk result (λ found. found.items
+        ≡ representatives document.now.classes (relation above.now)) }
 {
     let mut found = Vec::new(alloc);
     for c in order {

@@ -14,10 +14,12 @@ use std::alloc::Global;
 ///
 /// Takes no memory. Linear in the groups and in the members of all groups.
 pub fn summary(taxonomy: &Taxonomy) -> Summary
-    requires { (document : Document) × (below : ℕ → ℕ → Bool) × IsTaxonomyOf document below taxonomy.now.groups }
+    requires { (document : Document) × (below : ℕ → ℕ → Bool)
+        × IsTaxonomyOf document below taxonomy.now.groups }
 
     // The counts are those of the relation that the taxonomy is of.
-    ensures { (document : Document) (below : ℕ → ℕ → Bool) → IsTaxonomyOf document below taxonomy.now.groups
+    ensures { (document : Document) (below : ℕ → ℕ → Bool)
+        → IsTaxonomyOf document below taxonomy.now.groups
         → result ≡ summary_of document.classes below }
 {
     let groups = taxonomy.groups.items();

@@ -31,7 +31,8 @@ impl Source for Asked {
 
     fn read(&mut self, buf: &mut [u8]) -> Result<usize, Failed>
         ensures bound { ReadsAtMost result buf.new }
-        ensures bytes { ReadConsumes (Some self.old.source.left) (Some self.new.source.left) result buf.new }
+        ensures bytes { ReadConsumes (Some self.old.source.left)
+            (Some self.new.source.left) result buf.new }
         ensures after { KeepsAtOk (Some []) (Some []) result }
         ensures ended { TellsEnd buf.new result self.new.source.ended }
         ensures ended_stays { KeepsEnd buf.new self.old.source.ended self.new.source.ended }

@@ -17,7 +17,9 @@ pub record IsGenerated (levels : ℕ) (document : Document) : Type 0 where
 
 -- the text is the summary of what the generated document entails
 abbrev pub IsTrialText : ℕ → List ℕ → Type 0
-IsTrialText levels text = (document : Document) × IsGenerated levels document × (below : ℕ → ℕ → Bool) × Decides document below × (text ≡ summary_text (summary_of document.classes below))
+IsTrialText levels text = (document : Document) × IsGenerated levels document
+    × (below : ℕ → ℕ → Bool) × Decides document below
+    × (text ≡ summary_text (summary_of document.classes below))
 
 -- exactly one text was added: that summary
 abbrev pub IsTried : ℕ → Option (List ℕ) → Option (List ℕ) → Type 0
@@ -29,8 +31,11 @@ IsPartlyTried levels old new = (text : List ℕ) × IsTrialText levels text × A
 
 -- by the normal axioms of the generated document a maximum is reached with that number
 abbrev pub IsTrialLimited : ℕ → ℕ → ℕ → LimitKind → ℕ → Type 0
-IsTrialLimited levels max_contexts max_facts kind number = (document : Document) × IsGenerated levels document × IsReached document max_contexts max_facts kind number
+IsTrialLimited levels max_contexts max_facts kind number =
+    (document : Document) × IsGenerated levels document
+    × IsReached document max_contexts max_facts kind number
 
 -- no maximum can be reached by the normal axioms of the generated document
 abbrev pub IsTrialAnswerable : ℕ → ℕ → ℕ → Type 0
-IsTrialAnswerable levels max_contexts max_facts = (kind : LimitKind) (number : ℕ) → IsTrialLimited levels max_contexts max_facts kind number → ⊥
+IsTrialAnswerable levels max_contexts max_facts = (kind : LimitKind) (number : ℕ)
+    → IsTrialLimited levels max_contexts max_facts kind number → ⊥

@@ -35,31 +35,40 @@ pub fn run<S: Source, K: Sink, E: Sink>(
     // its answer.
     ensures done { (limits : Limits) → Asks (map string_bytes words.now) Command.Classify limits
         → IfSome (S.left source.old) (λ input. result ≡ Status.Done →
-        IsClassified input limits.max_bytes (S.left source.new) (K.written out.old) (K.written out.new)) }
+        IsClassified input limits.max_bytes (S.left source.new) (K.written out.old)
+        (K.written out.new)) }
 
     // What each command promises.
     ensures classify { (limits : Limits) → Asks (map string_bytes words.now) Command.Classify limits
-        → IsClassifiedBy limits.max_bytes limits.max_contexts limits.max_facts (S.left source.old) (S.ended source.new)
-        (Rose (S.faults source.old) (S.faults source.new)) (Rose (K.faults out.old) (K.faults out.new)) (K.written out.old) (K.written out.new) result }
-    ensures trial { (n : ℕ) (limits : Limits) → Asks (map string_bytes words.now) (Command.Trial n) limits
+        → IsClassifiedBy limits.max_bytes limits.max_contexts limits.max_facts (S.left source.old)
+        (S.ended source.new)
+        (Rose (S.faults source.old) (S.faults source.new))
+        (Rose (K.faults out.old) (K.faults out.new)) (K.written out.old)
+        (K.written out.new) result }
+    ensures trial { (n : ℕ) (limits : Limits)
+        → Asks (map string_bytes words.now) (Command.Trial n) limits
         → (source.new ≡ source.old) × IsTriedBy n limits.max_contexts limits.max_facts
-        (Rose (K.faults out.old) (K.faults out.new)) (K.written out.old) (K.written out.new) result }
+        (Rose (K.faults out.old) (K.faults out.new)) (K.written out.old)
+        (K.written out.new) result }
 
     // Each status has its cause.
     ensures finished { result ≡ Status.Done → K.finished out.new ≡ true }
     ensures usage { (result ≡ Status.Usage) ↔ (IsOfForm (map string_bytes words.now) → ⊥) }
-    ensures read_fault { result ≡ Status.ReadFault → Rose (S.faults source.old) (S.faults source.new) }
+    ensures read_fault { result ≡ Status.ReadFault
+        → Rose (S.faults source.old) (S.faults source.new) }
     ensures unended { result ≡ Status.ReadFault → S.ended source.new ≡ false }
     ensures write_fault { result ≡ Status.WriteFault → Rose (K.faults out.old) (K.faults out.new) }
     ensures unfinished { result ≡ Status.WriteFault → K.finished out.new ≡ false }
-    ensures refused { IfSome (S.left source.old) (λ input. (refusal : Refusal) → result ≡ Status.Refused refusal
+    ensures refused { IfSome (S.left source.old)
+        (λ input. (refusal : Refusal) → result ≡ Status.Refused refusal
         → IsRefused input standard_bytes refusal) }
 
     // What stands after it.
     ensures taken { LosesAtMost (S.left source.old) (S.left source.new) (standard_bytes + 1) }
     ensures unread { result ≡ Status.Usage → source.new ≡ source.old }
     ensures unwritten { IsEarly result → out.new ≡ out.old }
-    ensures noted { IsNoted (E.written notes.old) (E.written notes.new) (E.faults notes.old) (E.faults notes.new) (line_of result) }
+    ensures noted { IsNoted (E.written notes.old) (E.written notes.new) (E.faults notes.old)
+        (E.faults notes.new) (line_of result) }
     ensures quiet { result ≡ Status.Done → notes.new ≡ notes.old }
 {
     match ask(alloc, words) {

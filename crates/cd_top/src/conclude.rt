@@ -21,13 +21,16 @@ pub(crate) fn conclude<K: Sink, E: Sink>(
     // The status is that of the stop, or tells whether the text was written.
     ensures stopped { IfErr found (λ stop. result ≡ status_of stop) }
     ensures text { IfOk found (λ _. (result ≡ Status.Done) ⊎ (result ≡ Status.WriteFault)) }
-    ensures done { IfOk found (λ text. result ≡ Status.Done → Appends (K.written out.old) (K.written out.new) text.items) }
+    ensures done { IfOk found (λ text. result ≡ Status.Done
+        → Appends (K.written out.old) (K.written out.new) text.items) }
     ensures finished { result ≡ Status.Done → K.finished out.new ≡ true }
-    ensures partly { IfOk found (λ text. result ≡ Status.WriteFault → AppendsFront (K.written out.old) (K.written out.new) text.items) }
+    ensures partly { IfOk found (λ text. result ≡ Status.WriteFault
+        → AppendsFront (K.written out.old) (K.written out.new) text.items) }
     ensures write_fault { result ≡ Status.WriteFault → Rose (K.faults out.old) (K.faults out.new) }
     ensures unfinished { result ≡ Status.WriteFault → K.finished out.new ≡ false }
     ensures unwritten { IsEarly result → out.new ≡ out.old }
-    ensures noted { IsNoted (E.written notes.old) (E.written notes.new) (E.faults notes.old) (E.faults notes.new) (line_of result) }
+    ensures noted { IsNoted (E.written notes.old) (E.written notes.new) (E.faults notes.old)
+        (E.faults notes.new) (line_of result) }
     ensures quiet { result ≡ Status.Done → notes.new ≡ notes.old }
 {
     match found {

@@ -16,7 +16,8 @@ use itoa::Buffer;
 /// of the line.
 pub(crate) fn note<E: Sink>(notes: &mut E, status: Status) -> Status
     ensures same { result ≡ status }
-    ensures noted { IsNoted (E.written notes.old) (E.written notes.new) (E.faults notes.old) (E.faults notes.new) (line_of status) }
+    ensures noted { IsNoted (E.written notes.old) (E.written notes.new) (E.faults notes.old)
+        (E.faults notes.new) (line_of status) }
     ensures quiet { status ≡ Status.Done → notes.new ≡ notes.old }
 {
     // A fault on the notes leaves the status as it is.
@@ -26,7 +27,8 @@ pub(crate) fn note<E: Sink>(notes: &mut E, status: Status) -> Status
 
 /// Writes the status's line.
 fn put_line<E: Sink>(notes: &mut E, status: Status) -> Result<(), WriteFault>
-    ensures all { OnOk result (Appends (E.written notes.old) (E.written notes.new) (line_of status)) }
+    ensures all { OnOk result (Appends (E.written notes.old) (E.written notes.new)
+        (line_of status)) }
     ensures front { AppendsFront (E.written notes.old) (E.written notes.new) (line_of status) }
     ensures cause { HasCause (E.faults notes.old) (E.faults notes.new) result }
     ensures quiet { status ≡ Status.Done → notes.new ≡ notes.old }
@@ -54,8 +56,10 @@ fn fixed_line(status: Status) -> &'static [u8]
 
 /// Writes the line of a maximum.
 fn put_limit<E: Sink>(notes: &mut E, kind: LimitKind, number: u64) -> Result<(), WriteFault>
-    ensures all { OnOk result (Appends (E.written notes.old) (E.written notes.new) (limit_line kind number)) }
-    ensures front { AppendsFront (E.written notes.old) (E.written notes.new) (limit_line kind number) }
+    ensures all { OnOk result (Appends (E.written notes.old) (E.written notes.new)
+        (limit_line kind number)) }
+    ensures front { AppendsFront (E.written notes.old) (E.written notes.new)
+        (limit_line kind number) }
     ensures cause { HasCause (E.faults notes.old) (E.faults notes.new) result }
 {
     match kind {
@@ -76,8 +80,10 @@ fn put_limit<E: Sink>(notes: &mut E, kind: LimitKind, number: u64) -> Result<(),
 
 /// Writes the line of a refusal.
 fn put_refusal<E: Sink>(notes: &mut E, refusal: Refusal) -> Result<(), WriteFault>
-    ensures all { OnOk result (Appends (E.written notes.old) (E.written notes.new) (refusal_line refusal)) }
-    ensures front { AppendsFront (E.written notes.old) (E.written notes.new) (refusal_line refusal) }
+    ensures all { OnOk result (Appends (E.written notes.old) (E.written notes.new)
+        (refusal_line refusal)) }
+    ensures front { AppendsFront (E.written notes.old) (E.written notes.new)
+        (refusal_line refusal) }
     ensures cause { HasCause (E.faults notes.old) (E.faults notes.new) result }
 {
     match refusal {
@@ -115,8 +121,10 @@ fn construct_word(number: u8) -> &'static [u8]
 
 /// Writes the line of a refused construct.
 fn put_construct<E: Sink>(notes: &mut E, word: &[u8], place: u64) -> Result<(), WriteFault>
-    ensures all { OnOk result (Appends (E.written notes.old) (E.written notes.new) (construct_line word.now place)) }
-    ensures front { AppendsFront (E.written notes.old) (E.written notes.new) (construct_line word.now place) }
+    ensures all { OnOk result (Appends (E.written notes.old) (E.written notes.new)
+        (construct_line word.now place)) }
+    ensures front { AppendsFront (E.written notes.old) (E.written notes.new)
+        (construct_line word.now place) }
     ensures cause { HasCause (E.faults notes.old) (E.faults notes.new) result }
 {
     put_both(notes, b"condor: construct ", word)?;
@@ -130,8 +138,10 @@ fn put_numbered<E: Sink>(
     number: u64,
     back: &[u8],
 ) -> Result<(), WriteFault>
-    ensures all { OnOk result (Appends (E.written notes.old) (E.written notes.new) (numbered front.now number back.now)) }
-    ensures front { AppendsFront (E.written notes.old) (E.written notes.new) (numbered front.now number back.now) }
+    ensures all { OnOk result (Appends (E.written notes.old) (E.written notes.new)
+        (numbered front.now number back.now)) }
+    ensures front { AppendsFront (E.written notes.old) (E.written notes.new)
+        (numbered front.now number back.now) }
     ensures cause { HasCause (E.faults notes.old) (E.faults notes.new) result }
 {
     let mut buffer = Buffer::new();
@@ -141,8 +151,10 @@ fn put_numbered<E: Sink>(
 
 /// Writes one text after the other.
 fn put_both<E: Sink>(notes: &mut E, first: &[u8], second: &[u8]) -> Result<(), WriteFault>
-    ensures all { OnOk result (Appends (E.written notes.old) (E.written notes.new) (first.now ++ second.now)) }
-    ensures front { AppendsFront (E.written notes.old) (E.written notes.new) (first.now ++ second.now) }
+    ensures all { OnOk result (Appends (E.written notes.old) (E.written notes.new)
+        (first.now ++ second.now)) }
+    ensures front { AppendsFront (E.written notes.old) (E.written notes.new)
+        (first.now ++ second.now) }
     ensures cause { HasCause (E.faults notes.old) (E.faults notes.new) result }
 {
     write_all(notes, first)?;

@@ -14,7 +14,8 @@ words_rule = record (new_rule (codes "words")) { action = Some Append }
 
 -- the command without its arguments: no program's name before the words, and no help flag
 abbrev pub bare : App
-bare = on_top (λ s. record s { no_binary_name = true; disable_help_flag = true }) (new_app (codes "condor"))
+bare = on_top (λ s. record s { no_binary_name = true; disable_help_flag = true })
+    (new_app (codes "condor"))
 
 -- one simple command
 abbrev pub command_line : App

@@ -44,8 +44,10 @@ number_found other = None
 
 -- `classify`, or `trial` and its number
 abbrev pub verb_found : Option (List Bytes) → Verb
-verb_found (Some (word ∷ [])) = if bytes_eq word (codes "classify") then verb.Classify else verb.Missing
-verb_found (Some (word ∷ size ∷ [])) = if bytes_eq word (codes "trial") then verb.Trial (numeral size) else verb.Missing
+verb_found (Some (word ∷ [])) =
+    if bytes_eq word (codes "classify") then verb.Classify else verb.Missing
+verb_found (Some (word ∷ size ∷ [])) =
+    if bytes_eq word (codes "trial") then verb.Trial (numeral size) else verb.Missing
 verb_found other = verb.Missing
 
 -- what is heard of words in which `clap` found this

@@ -25,7 +25,8 @@ name_and_value word =
     then Some (before_first (λ b. b == 61) word, after_first (λ b. b == 61) word) else None
 
 abbrev pub nothing_heard : Heard
-nothing_heard = record { workers = None; cells = None; max_contexts = None; max_facts = None; verb = Missing; waiting = None }
+nothing_heard = record { workers = None; cells = None; max_contexts = None; max_facts = None;
+    verb = Missing; waiting = None }
 
 -- the number of an option
 abbrev pub number_heard : Heard → Setting → Option ℕ
@@ -42,7 +43,9 @@ with_number heard MaxFacts n = record heard { max_facts = Some n; waiting = None
 
 -- a value of an option that has none yet
 abbrev pub heard_value : Heard → Setting → Bytes → Option Heard
-heard_value heard option value = if is_some (number_heard heard option) then None else option_map (with_number heard option) (numeral value)
+heard_value heard option value =
+    if is_some (number_heard heard option) then None else option_map (with_number heard option)
+    (numeral value)
 
 -- the words on their own, after one more
 abbrev pub verb_after : Verb → Bytes → Option Verb
@@ -54,7 +57,8 @@ verb_after (Trial None) word = option_map (λ n. Trial (Some n)) (numeral word)
 verb_after other word = None
 
 abbrev pub heard_alone : Heard → Bytes → Option Heard
-heard_alone heard word = option_map (λ verb. record heard { verb = verb }) (verb_after heard.verb word)
+heard_alone heard word = option_map (λ verb. record heard { verb = verb })
+    (verb_after heard.verb word)
 
 abbrev pub heard_name : Heard → Option Setting → Bytes → Option Heard
 heard_name heard (Some option) word = Some (record heard { waiting = Some option })
@@ -83,4 +87,5 @@ heard_word heard word = heard_waiting heard heard.waiting word
 -- all words, one by one
 abbrev pub heard_all : Heard → List Bytes → Option Heard
 heard_all heard [] = Some heard
-heard_all heard (word ∷ more) = option_and_then (λ next. heard_all next more) (heard_word heard word)
+heard_all heard (word ∷ more) =
+    option_and_then (λ next. heard_all next more) (heard_word heard word)

@@ -50,8 +50,10 @@ fn words_argument<'a>(alloc: Global) -> Arg<'a>
 
 /// What `clap` finds in the words. `Usage` where it refuses them.
 pub fn parsed<'a>(alloc: Global, words: &'a [String]) -> Result<ArgMatches<'a>, AskFault>
-    ensures found { IfOk result (λ matches. rows_of (found_of matches) ≡ matches_of command_line (map string_bytes words.now)) }
-    ensures taken { IfErr result (λ fault. takes command_line (map string_bytes words.now) ≡ true → fault ≡ AskFault.Memory) }
+    ensures found { IfOk result (λ matches. rows_of (found_of matches)
+        ≡ matches_of command_line (map string_bytes words.now)) }
+    ensures taken { IfErr result (λ fault. takes command_line (map string_bytes words.now) ≡ true
+        → fault ≡ AskFault.Memory) }
 {
     match matches(alloc, words) {
         Ok(matches) => Ok(matches),
@@ -61,8 +63,10 @@ pub fn parsed<'a>(alloc: Global, words: &'a [String]) -> Result<ArgMatches<'a>, 
 
 /// The same, with the error as `clap` tells it.
 fn matches<'a>(alloc: Global, words: &'a [String]) -> Result<ArgMatches<'a>, Error>
-    ensures found { IfOk result (λ matches. rows_of (found_of matches) ≡ matches_of command_line (map string_bytes words.now)) }
-    ensures taken { IfErr result (λ e. takes command_line (map string_bytes words.now) ≡ true → kind_of e ≡ ErrorKind.OutOfMemory) }
+    ensures found { IfOk result (λ matches. rows_of (found_of matches)
+        ≡ matches_of command_line (map string_bytes words.now)) }
+    ensures taken { IfErr result (λ e. takes command_line (map string_bytes words.now) ≡ true
+        → kind_of e ≡ ErrorKind.OutOfMemory) }
 {
     command_line(alloc)?.try_get_matches_from(words)
 }

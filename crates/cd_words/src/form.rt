@@ -20,8 +20,10 @@ use std::alloc::Global;
 ///
 /// `Usage` exactly where the words are outside this form. Linear in their bytes.
 pub fn ask(alloc: Global, words: &[String]) -> Result<Ask, AskFault>
-    ensures asked { IfOk result (λ asked. Asks (map string_bytes words.now) asked.command asked.limits) }
-    ensures only { IfOk result (λ asked. AsksOnly (map string_bytes words.now) asked.command asked.limits) }
+    ensures asked { IfOk result (λ asked.
+        Asks (map string_bytes words.now) asked.command asked.limits) }
+    ensures only { IfOk result (λ asked.
+        AsksOnly (map string_bytes words.now) asked.command asked.limits) }
     ensures usage { IsErrOf result AskFault.Usage ↔ (IsOfForm (map string_bytes words.now) → ⊥) }
 {
     // The test takes no memory: so want of it never hides that words are outside the form.
@@ -48,7 +50,8 @@ impl Heard {
     /// What all words ask, where they are complete and each number is in its range.
     fn asked(self) -> Option<Ask>
         ensures some { IfSome result (λ asked. IsHeardAs self asked.command asked.limits) }
-        ensures none { IfNone result ((command : Command) → (limits : Limits) → IsHeardAs self command limits → ⊥) }
+        ensures none { IfNone result ((command : Command) → (limits : Limits)
+            → IsHeardAs self command limits → ⊥) }
     {
         if self.waiting.is_some() {
             return None;

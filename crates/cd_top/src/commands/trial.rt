@@ -36,7 +36,8 @@ pub(crate) fn trial_here<K: Sink, E: Sink>(
     requires most { levels ≤ 20000 }
     // What it promises.
     ensures kept { IsTriedBy levels limits.now.max_contexts limits.now.max_facts
-        (Rose (K.faults out.old) (K.faults out.new)) (K.written out.old) (K.written out.new) result }
+        (Rose (K.faults out.old) (K.faults out.new)) (K.written out.old)
+        (K.written out.new) result }
     ensures finished { result ≡ Status.Done → K.finished out.new ≡ true }
 
     // Each other status has its cause, or never comes.
@@ -46,7 +47,8 @@ pub(crate) fn trial_here<K: Sink, E: Sink>(
 
     // What stands after it.
     ensures unwritten { IsEarly result → out.new ≡ out.old }
-    ensures noted { IsNoted (E.written notes.old) (E.written notes.new) (E.faults notes.old) (E.faults notes.new) (line_of result) }
+    ensures noted { IsNoted (E.written notes.old) (E.written notes.new) (E.faults notes.old)
+        (E.faults notes.new) (line_of result) }
     ensures quiet { result ≡ Status.Done → notes.new ≡ notes.old }
 {
     let found = trial_text(alloc, levels, limits);
@@ -74,7 +76,8 @@ fn trial_text(alloc: Global, levels: u32, limits: &Limits) -> Result<Vec<u8>, St
 /// The summary of the answers. What `taxonomy` takes.
 fn counted(alloc: Global, document: &Document, above: &[Answer]) -> Result<Vec<u8>, Memory>
     requires answers { AreAnswers document.now above.now }
-    ensures { IfOk result (λ text. text.items ≡ summary_text (summary_of document.now.classes (relation above.now))) }
+    ensures { IfOk result (λ text. text.items
+        ≡ summary_text (summary_of document.now.classes (relation above.now))) }
 {
     let found = taxonomy(alloc, document, above)?;
     let text = summary_text(alloc, &summary(&found))?;
