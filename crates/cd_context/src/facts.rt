@@ -6,7 +6,7 @@ ghost use Rattle.cd_context.specs.FactWrites.{fact_writes};
 use cd_base::{Atom, Key, Role};
 use std::hash::{Hash, Hasher};
 
-/// A fact for one context, K or H.
+/// What one context is told of another.
 #[derive(Debug, Drop, PartialEq, Eq)]
 pub enum Fact {
     /// The context is that of a named class.

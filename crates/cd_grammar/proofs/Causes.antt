@@ -11,7 +11,7 @@ use Rattle.cd_grammar.specs.declared.symbol.Symbol.{Symbol}
 use Rattle.cd_grammar.specs.declared.symbol.Symbol.TheVariants.{PrefixIri}
 use Rattle.cd_syntax.specs.declared.words.Keyword.{Keyword}
 use Rattle.cd_grammar.specs.Causes.{number_of, refused_role, refused, is_unknown, first_of_causes, cause_of}
-use Rattle.cd_syntax.proofs.ItemFault.{IsBehind, IsNoRole, IsRefused, IsUnknown, IsClash, IsDeep, IsCause}
+use Rattle.cd_syntax.proofs.ItemFault.{IsBehind, IsNoRole, IsRefusedConstruct, IsUnknown, IsClash, IsDeep, IsCause}
 use Rattle.cd_syntax.specs.Grammar.{nesting, top_role, bottom_role, with_prefix}
 use Rattle.cd_syntax.proofs.ItemGrammar.{Wanted, RoleOf, Means, Leads}
 use Rattle.cd_syntax.specs.Named.{iri_of}
@@ -120,7 +120,7 @@ module _ (front : List Item) (known : Known) (stack : List Symbol) (run : after 
   -- ---- refused constructs
 
   -- an item that is a refused construct is found to be one
-  pub refused_only : (item : Item) (number : ℕ) → IsRefused front item number → refused known item (role_at stack) ≡ Some number
+  pub refused_only : (item : Item) (number : ℕ) → IsRefusedConstruct front item number → refused known item (role_at stack) ≡ Some number
   refused_only item number (inl is) = ap (λ (t : Item). refused known t (role_at stack)) is
   refused_only item number (inr (known', role, wanted, behind, two)) =
       let (same, roles, prefixes) = at_stack known' (RoleOf role ∷ wanted) behind in
@@ -133,7 +133,7 @@ module _ (front : List Item) (known : Known) (stack : List Symbol) (run : after 
       (known, 0, rest, is_behind front (known, stack) run wanted fills known (RoleOf 0 ∷ rest) leads, means_two known item number h)
 
   -- an item that is found to be a refused construct is one
-  refused_found : (item : Item) (number : ℕ) (wants : Bool) → role_at stack ≡ wants → refused known item wants ≡ Some number → IsRefused front item number
+  refused_found : (item : Item) (number : ℕ) (wants : Bool) → role_at stack ≡ wants → refused known item wants ≡ Some number → IsRefusedConstruct front item number
   refused_found (Word (Keyword.Refused k)) number wants w h = inl (ap (λ (n : ℕ). Word (Keyword.Refused n)) cc)
   refused_found item number true w h = inr (no_role item number w h)
   refused_found item number false w h = absurd cc

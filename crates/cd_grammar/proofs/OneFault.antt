@@ -3,13 +3,13 @@ use Rattle.std.proofs.Common.{◌≡◌, ℕ, List, refl, ap, inl, inr}
 use Rattle.cd_syntax.specs.declared.cause.Cause.{Cause}
 use Rattle.cd_syntax.specs.declared.cause.Cause.TheVariants.{Construct, Prefix, Depth, Syntax}
 use Rattle.cd_syntax.specs.declared.item.Item.{Item}
-use Rattle.cd_syntax.proofs.ItemFault.{IsFront, IsRefused, IsCause}
+use Rattle.cd_syntax.proofs.ItemFault.{IsFront, IsRefusedConstruct, IsCause}
 use Rattle.cd_syntax.specs.Grammar.{nesting}
 use Rattle.cd_grammar.proofs.Causes.{refused_only}
 use Rattle.cd_grammar.proofs.Runs.{front_reaches}
 
 -- an item is of one refused construct
-one_number : (front : List Item) (item : Item) (m n : ℕ) → IsFront nesting front → IsRefused front item m → IsRefused front item n → m ≡ n
+one_number : (front : List Item) (item : Item) (m n : ℕ) → IsFront nesting front → IsRefusedConstruct front item m → IsRefusedConstruct front item n → m ≡ n
 one_number front item m n is first second =
     let (end, run) = front_reaches nesting front is in
     let e = refused_only front end.0 end.1 run item m first in

@@ -91,8 +91,8 @@ module _ (document : Document) (m : Maker) (by : IsMadeOf (length document.class
     same_axioms (n4 t) = (subst (OneOf t) e4, subst (OneOf t) (sym e4))
     same_axioms (n5 p) = (subst (OneOf p) e5, subst (OneOf p) (sym e5))
 
-    pub by_method : n.atoms ≡ m.next → n.roles ≡ length document.roles → n.named ≡ replicate (length document.classes) true ++ replicate (m.next - length document.classes) false → IsStructuralNormalForm document n
-    by_method atoms_is roles_is named_is =
+    pub is_normal_form : n.atoms ≡ m.next → n.roles ≡ length document.roles → n.named ≡ replicate (length document.classes) true ++ replicate (m.next - length document.classes) false → IsStructuralNormalForm document n
+    is_normal_form atoms_is roles_is named_is =
         let atoms = by.atoms in
         let fresh : m.next - length document.classes ≡ length by.labels = omega (arith, atoms) in
         let have : (a : NormalAxiom) → HasNormal n a ↔ OneOf a (implies [] (0 ∷ []) ∷ implies (1 ∷ []) [] ∷ by.axs) = λ a. (λ h. (by.have a).0 ((same_axioms a).0 h), λ k. (same_axioms a).1 ((by.have a).1 k)) in

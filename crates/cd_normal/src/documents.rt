@@ -18,11 +18,11 @@ use std::alloc::Global;
 
 /// The normal axioms of a document, by structural transformation. The atoms below the number of classes are these classes.
 ///
-/// Linear in the nodes of the document, but for a look-up of each operand of a disjointness. `method` says which normal axioms they are:
-/// structural transformation, with a fresh atom for each use of an expression.
+/// Linear in the nodes of the document, but for a look-up of each operand of a disjointness. `normal_form` says which normal axioms they
+/// are: structural transformation, with a fresh atom for each use of an expression.
 pub fn normalise(alloc: Global, document: &Document) -> Result<Normal, Memory>
     requires few { length document.now.classes + 6 * nodes document.now.axioms < 2 ^ 32 - 1 }
-    ensures method { IfOk result (λ normal. IsStructuralNormalForm document.now normal) }
+    ensures normal_form { IfOk result (λ normal. IsStructuralNormalForm document.now normal) }
 
     // Every interpretation in which they hold is one of the document, and every one of the document extends to one in which they hold.
     ensures restricts { IfOk result (λ normal. (i : Interpretation) → IsNormalModel normal i

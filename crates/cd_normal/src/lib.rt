@@ -8,8 +8,8 @@
 //!
 //! No negation normal form is built: a complement turns the side.
 //!
-//! What the structural normal form is stands in `specs/Represents.antt` and `specs/NormalForm.antt`, as a relation between a document, a choice of atoms and a
-//! list of normal axioms. That it loses and adds nothing is proved of the relation (`laws`), apart from the code.
+//! What the structural normal form is stands in `specs/Represents.antt` and `specs/NormalForm.antt`, as a relation between a document, a
+//! choice of atoms and a list of normal axioms. That it loses and adds nothing is proved of the relation (`laws`), apart from the code.
 #![tactic(auto)]
 
 mod apart;

@@ -15,7 +15,7 @@ use std::alloc::Global;
 /// and the related pairs of them.
 pub fn index_of(alloc: Global, document: &Document) -> Result<Index, Memory>
     requires few { length document.now.classes + 6 * nodes document.now.axioms < 2 ^ 32 - 1 }
-    ensures method { IfOk result (λ index. IsStructuralNormalForm document.now index.normal) }
+    ensures normal_form { IfOk result (λ index. IsStructuralNormalForm document.now index.normal) }
     ensures closure { IfOk result (λ index. HasClosure index.normal) }
     ensures roles { IfOk result (λ index. RolesInRange index.normal) }
 {

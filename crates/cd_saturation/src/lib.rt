@@ -5,9 +5,9 @@
 //! maximum is reached (`cd_core`). `answers` does both, and asks the cell of each class for its subsumers.
 //!
 //! The contract of `answers` speaks of entailment. Where cells owe each other nothing that is not had, the context of a class is exact in
-//! all models of the normal axioms (`cd_cell`), which are the document's structural normal form (`proofs/Documents.antt`). A run has no answers
-//! only where memory ran out or a maximum was reached: then the rules can reach that many contexts from the normal axioms, or that many
-//! facts in them (`specs/Limit.antt`).
+//! all models of the normal axioms (`cd_cell`), which are the document's structural normal form (`proofs/Documents.antt`). A run has no
+//! answers only where memory ran out or a maximum was reached: then the rules can reach that many contexts from the normal axioms, or
+//! that many facts in them (`specs/Limit.antt`).
 //!
 //! How the cells are worked, by one core on one thread, is known here and nowhere above.
 #![tactic(auto)]

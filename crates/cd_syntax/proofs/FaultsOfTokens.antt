@@ -10,7 +10,7 @@ use Rattle.cd_syntax.specs.declared.known.Known.{Known}
 use Rattle.cd_syntax.specs.declared.words.Keyword.{Keyword}
 use Rattle.cd_syntax.specs.Fault.{Next, Token, End, Bad, IsFront, GoesOn, IsBehind, IsNoRole, IsConstruct, IsUnknown, IsClash, IsCause, IsFault}
 use Rattle.cd_syntax.specs.Grammar.{Wanted, PrefixIri, RoleOf, Text, Means, Leads, IsWhole, begun, nesting, top_role, bottom_role}
-use Rattle.cd_syntax.proofs.ItemFault.{IsFront as IsItemFront, IsBehind as IsItemBehind, IsNoRole as IsItemNoRole, IsRefused as IsItemRefused, IsUnknown as IsItemUnknown, IsClash as IsItemClash, IsCause as IsItemCause}
+use Rattle.cd_syntax.proofs.ItemFault.{IsFront as IsItemFront, IsBehind as IsItemBehind, IsNoRole as IsItemNoRole, IsRefusedConstruct as IsItemRefused, IsUnknown as IsItemUnknown, IsClash as IsItemClash, IsCause as IsItemCause}
 use Rattle.cd_syntax.proofs.ItemGrammar.{Wanted as ItemWanted, Means as ItemMeans, Leads as ItemLeads, IsWhole as IsItemWhole}
 use Rattle.cd_syntax.specs.Items.{item_of}
 use Rattle.cd_syntax.proofs.ItemsOfTokens.{item_wanted, Agree, means_to}

@@ -10,7 +10,7 @@ use Rattle.cd_saturation.proofs.subsumers.answers.Goals as goal
 
 pub saturate-requires : goal.saturate-requires
 saturate-requires c = record {
-  named = λ a lt. class_is_named c.args.document.now c.in_ok-index.index.normal c.in_ok-index.ensures.method a (subst (λ l. a < length l) c.items.ensures lt);
+  named = λ a lt. class_is_named c.args.document.now c.in_ok-index.index.normal c.in_ok-index.ensures.normal_form a (subst (λ l. a < length l) c.items.ensures lt);
 }
 
 pub returns-in_err-index-clause-limit : goal.returns-in_err-index-clause-limit
@@ -23,7 +23,7 @@ returns-in_err-cells-clause-limit c kind number e =
     let p = err_from_is_err_and c.from_residual-in_err-cells.result c.from_residual-in_err-cells.ensures.1 in
     let halted = reached c.in_ok-index.index.normal c.args.limits.now.max_contexts c.args.limits.now.max_facts p.0 kind number
     (subst (HasHalted c.in_ok-index.index.normal c.args.limits.now.max_contexts c.args.limits.now.max_facts) (sym p.2) c.in_err-cells.ensures.halted) (sym p.1 ∙ e) in
-    (c.in_ok-index.index.normal, c.in_ok-index.ensures.method, halted)
+    (c.in_ok-index.index.normal, c.in_ok-index.ensures.normal_form, halted)
 
 pub returns-in_err-above-clause-limit : goal.returns-in_err-above-clause-limit
 returns-in_err-above-clause-limit c kind number e =
@@ -36,12 +36,12 @@ all_answers-requires-clause-begun c a lt = subst (λ cs. IsBegun c.args.limits.n
 pub all_answers-requires-clause-named : goal.all_answers-requires-clause-named
 all_answers-requires-clause-named c a lt i d at =
     subst (λ n. is_named n a ≡ true) (sym (c.in_ok-cells.ensures.closed.normal i d (subst (λ cs. At cs i d) c.deref.ensures.value at)))
-    (class_is_named c.args.document.now c.in_ok-index.index.normal c.in_ok-index.ensures.method a (subst (λ l. a < length l) c.items.ensures lt))
+    (class_is_named c.args.document.now c.in_ok-index.index.normal c.in_ok-index.ensures.normal_form a (subst (λ l. a < length l) c.items.ensures lt))
 
 pub returns-clause-ok : goal.returns-clause-ok
 returns-clause-ok c =
     let long = ap length c.items.ensures in
     let e = c.in_ok-above.ensures in
-    answers_are c.args.document.now c.in_ok-index.index.normal c.in_ok-index.ensures.method c.in_ok-index.ensures.closure c.in_ok-index.ensures.roles c.in_ok-cells.cells.items c.in_ok-cells.ensures.closed c.args.limits.now.cells
+    answers_are c.args.document.now c.in_ok-index.index.normal c.in_ok-index.ensures.normal_form c.in_ok-index.ensures.closure c.in_ok-index.ensures.roles c.in_ok-cells.cells.items c.in_ok-cells.ensures.closed c.args.limits.now.cells
     (λ a lt. c.in_ok-cells.ensures.begun a (subst (λ l. a < l) (sym long) lt)) c.in_ok-above.above.items (e.each ∙ long)
     (λ a x at. subst (λ cs. IsSubsumersInCells c.args.limits.now.cells cs a x) c.deref.ensures.value (e.are a x at))
