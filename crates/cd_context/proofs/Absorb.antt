@@ -20,8 +20,7 @@ use Rattle.cd_context.specs.Calls.{GainsOnly, Sends}
 use Rattle.cd_context.specs.Justified.{Justified, IsContext, ClosedLocally, IsInTurn}
 use Rattle.cd_context.specs.Owes.{Owes}
 use Rattle.cd_context.specs.State.{State}
-use Rattle.cd_context.specs.TakeUp.{ClosedUpTo}
-use Rattle.cd_context.proofs.Adds.{Continues}
+use Rattle.cd_context.specs.TakeUp.{ClosedUpTo, Continues}
 use Rattle.cd_context.proofs.Grown.{begins_same, Longer, grows, risen, length_one_more, had_link, had_back, had_dead}
 use Rattle.cd_context.proofs.Once.{same_key-true}
 use Rattle.cd_context.proofs.Sent.{sends_less, owed_after}
@@ -127,7 +126,7 @@ module _ (n : Normal) (old : State) (f : LinkFact) (links : List LinkFact) (kept
 
 -- A back comes.
 module _ (n : Normal) (old : State) (f : BackFact) (backs : List BackFact) (clauses : List (List Elem)) (live : List ℕ) (kept : IsContext n old) (just : Justified n old.key (Back f.role f.key f.atom)) (fresh : has_fact old (Back f.role f.key f.atom) ≡ false) (e : backs ≡ old.backs ++ f ∷ [])
-    (in_turn : IsInTurn n old.key backs old.deads clauses) (store : IsStore clauses live) (continues : Continues (old.clauses, old.live) (clauses, live)) where
+    (in_turn : IsInTurn n old.key backs old.deads clauses) (store : IsStore clauses live) (continues : Continues (record { clauses = old.clauses; live = old.live }) (record { clauses = clauses; live = live })) where
   abbrev with_back : State
   with_back = record { key = old.key; clauses = clauses; live = live; links = old.links; backs = backs; deads = old.deads }
 
@@ -174,7 +173,7 @@ module _ (n : Normal) (old : State) (f : BackFact) (backs : List BackFact) (clau
 
 -- A dead comes.
 module _ (n : Normal) (old : State) (f : DeadFact) (deads : List DeadFact) (clauses : List (List Elem)) (live : List ℕ) (kept : IsContext n old) (just : Justified n old.key (Dead f.role f.key)) (fresh : has_fact old (Dead f.role f.key) ≡ false) (e : deads ≡ old.deads ++ f ∷ [])
-    (in_turn : IsInTurn n old.key old.backs deads clauses) (store : IsStore clauses live) (continues : Continues (old.clauses, old.live) (clauses, live)) where
+    (in_turn : IsInTurn n old.key old.backs deads clauses) (store : IsStore clauses live) (continues : Continues (record { clauses = old.clauses; live = old.live }) (record { clauses = clauses; live = live })) where
   abbrev with_dead : State
   with_dead = record { key = old.key; clauses = clauses; live = live; links = old.links; backs = old.backs; deads = deads }
 

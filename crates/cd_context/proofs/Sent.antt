@@ -9,13 +9,14 @@ use Rattle.cd_clause.specs.declared.elem.Elem.{Elem}
 use Rattle.cd_rules.specs.declared.facts.BackFact.{BackFact}
 use Rattle.cd_rules.specs.declared.facts.DeadFact.{DeadFact}
 use Rattle.cd_store.proofs.Picks.{picked_in, picked_from}
+use Rattle.cd_store.specs.Store.{StoreState}
 use Rattle.cd_context.specs.declared.facts.Fact.TheVariants.{Link, Back, Dead}
 use Rattle.cd_context.specs.declared.facts.LinkFact.{LinkFact}
 use Rattle.cd_context.specs.declared.facts.Note.{Note}
 use Rattle.cd_context.specs.Calls.{Sends}
 use Rattle.cd_context.specs.Owes.{Owes, owes_link, owes_back, owes_dead}
 use Rattle.cd_context.specs.State.{State, live_of}
-use Rattle.cd_context.proofs.Adds.{Continues}
+use Rattle.cd_context.specs.TakeUp.{Continues}
 
 -- what was noted for an empty list is moved to the end of another
 pub sends_moved : (n : Normal) (Done : Type 0) (W : Note → Type 0) (s : State) (old notes out new_out : List Note) → old ≡ [] → Sends n Done W s old notes → Done → new_out ≡ out ++ notes → Sends n (Unit {0}) W s out new_out
@@ -41,14 +42,14 @@ of_filtered {X} p x (y ∷ xs) m =
     m
 
 -- a live clause that was stored before was live before
-live_before : (old new : List (List Elem) × List ℕ) (stored : ℕ) → stored ≡ length old.0 → Continues old new → (c : List Elem) → OneOf c (picked new.0 (filter (λ k. nat_lt k stored) new.1)) → OneOf c (picked old.0 old.1)
+live_before : (old new : StoreState) (stored : ℕ) → stored ≡ length old.clauses → Continues old new → (c : List Elem) → OneOf c (picked new.clauses (filter (λ k. nat_lt k stored) new.live)) → OneOf c (picked old.clauses old.live)
 live_before old new stored e t c m =
-    let r = picked_from new.0 (filter (λ k. nat_lt k stored) new.1) c m in
-    let f = of_filtered (λ k. nat_lt k stored) r.0 new.1 r.1 in
+    let r = picked_from new.clauses (filter (λ k. nat_lt k stored) new.live) c m in
+    let f = of_filtered (λ k. nat_lt k stored) r.0 new.live r.1 in
     let a : r.0 < stored = ltb-true r.0 stored f.1 in
-    let b : r.0 < length old.0 = omega arith in
-    subst (λ x. OneOf x (picked old.0 old.1)) (sym (r.2 ∙ ap (λ cs. get_or cs r.0 []) t.follows.1 ∙ get_or_append_left old.0 t.follows.0 [] r.0 b))
-    (picked_in old.0 old.1 r.0 (t.survivors r.0 f.0 b))
+    let b : r.0 < length old.clauses = omega arith in
+    subst (λ x. OneOf x (picked old.clauses old.live)) (sym (r.2 ∙ ap (λ cs. get_or cs r.0 []) t.follows.1 ∙ get_or_append_left old.clauses t.follows.0 [] r.0 b))
+    (picked_in old.clauses old.live r.0 (t.survivors r.0 f.0 b))
 
 -- what is owed for live clauses that are live in the other state too, towards the same links
 owed_for : (n : Normal) (s t : State) → s.key ≡ t.key → s.links ≡ t.links → ((c : List Elem) → OneOf c (live_of s) → OneOf c (live_of t)) → (note : Note) → Owes n s note → Owes n t note
@@ -57,11 +58,11 @@ owed_for n s t k l f note (owes_back h r c x i m e a u q) = owes_back h r c x (s
 owed_for n s t k l f note (owes_dead h r i m q) = owes_dead h r (subst (λ w. OneOf (record { key = h; role = r }) w) l i) (f [] m) (subst (λ w. note ≡ record { key = h; fact = Dead r w }) k q)
 
 -- what the live clauses of before owe was owed before
-pub owed_after : (n : Normal) (old : State) (clauses : List (List Elem)) (live : List ℕ) (backs : List BackFact) (deads : List DeadFact) (stored : ℕ) → stored ≡ length old.clauses → Continues (old.clauses, old.live) (clauses, live)
+pub owed_after : (n : Normal) (old : State) (clauses : List (List Elem)) (live : List ℕ) (backs : List BackFact) (deads : List DeadFact) (stored : ℕ) → stored ≡ length old.clauses → Continues (record { clauses = old.clauses; live = old.live }) (record { clauses = clauses; live = live })
     → (note : Note) → Owes n (record { key = old.key; clauses = clauses; live = filter (λ k. nat_lt k stored) live; links = old.links; backs = backs; deads = deads }) note → Owes n old note
 owed_after n old clauses live backs deads stored e t note o =
     owed_for n (record { key = old.key; clauses = clauses; live = filter (λ k. nat_lt k stored) live; links = old.links; backs = backs; deads = deads }) old refl refl
-    (live_before (old.clauses, old.live) (clauses, live) stored e t) note o
+    (live_before (record { clauses = old.clauses; live = old.live }) (record { clauses = clauses; live = live }) stored e t) note o
 
 -- what no clause owes
 pub owed_by_none : (n : Normal) (s : State) → ((c : List Elem) → OneOf c (live_of s) → ⊥) → (note : Note) → Owes n s note → ⊥

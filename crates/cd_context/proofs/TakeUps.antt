@@ -14,7 +14,7 @@ use Rattle.cd_index.specs.Index.{has}
 use Rattle.cd_rules.specs.Among.{Among}
 use Rattle.cd_rules.specs.Facts.{ConcludesFrom, IsBack, IsDead, IsPicked}
 use Rattle.cd_rules.specs.Uses.{RestsUse, Uses, FromClause}
-use Rattle.cd_store.specs.Store.{IsNew}
+use Rattle.cd_store.specs.Store.{IsNew, StoreState}
 use Rattle.cd_store.proofs.Picks.{picked_in, picked_from, redundant_after}
 use Rattle.cd_context.specs.TakeUp.{Told, IsTakenUp, ClosedUpTo, IsTakenFrom}
 
@@ -119,20 +119,20 @@ out_held n key told clauses live waiting o out closed r d q = elim (closed d q) 
 ]
 
 -- a conclusion that is stored, and waits
-pub out_new : (n : Normal) (key : List ℕ) (told : Told) (old new : List (List Elem) × List ℕ) (waiting after : List ℕ) (o : List Elem) (k : ℕ) (out : List (List Elem))
-    → ClosedUpTo n key told old.0 old.1 waiting (o ∷ out) → IsNew old o new k → ((m : ℕ) → (m ≡ k) ⊎ OneOf m waiting → OneOf m after) → ClosedUpTo n key told new.0 new.1 after out
+pub out_new : (n : Normal) (key : List ℕ) (told : Told) (old new : StoreState) (waiting after : List ℕ) (o : List Elem) (k : ℕ) (out : List (List Elem))
+    → ClosedUpTo n key told old.clauses old.live waiting (o ∷ out) → IsNew old o new k → ((m : ℕ) → (m ≡ k) ⊎ OneOf m waiting → OneOf m after) → ClosedUpTo n key told new.clauses new.live after out
 out_new n key told old new waiting after o k out closed s waits d q =
-    elim (closed d (more_from n key told (IsTakenUp new.0 new.1 after) (IsTakenUp old.0 old.1 waiting) d
+    elim (closed d (more_from n key told (IsTakenUp new.clauses new.live after) (IsTakenUp old.clauses old.live waiting) d
     (λ c h. elim (s.numbers h.0 h.1) [
       | inl e ↦ absurd (h.2 (waits h.0 (inl e)))
       | inr r ↦ (
         h.0,
         r.0,
         (λ w. h.2 (waits h.0 (inr w))),
-        h.3 ∙ ap (λ cs. get_or cs h.0 []) s.stored ∙ get_or_append_left old.0 (o ∷ []) [] h.0 r.1,
+        h.3 ∙ ap (λ cs. get_or cs h.0 []) s.stored ∙ get_or_append_left old.clauses (o ∷ []) [] h.0 r.1,
       )
     ]) q)) [
-      | inl a ↦ inl (redundant_after o (picked old.0 old.1) (picked new.0 new.1) d s.added a)
+      | inl a ↦ inl (redundant_after o (picked old.clauses old.live) (picked new.clauses new.live) d s.added a)
       | inr b ↦ elim b.1 [
         | inl e ↦ inl (o, s.added.isin, subst (λ z. Within z d) e b.2)
         | inr m ↦ inr (b.0, m, b.2)

@@ -13,6 +13,7 @@ use Rattle.cd_rules.specs.Uses.{UsesBack, UsesDead, FromKey, FromBack, FromDead}
 use Rattle.cd_rules.specs.declared.facts.BackFact.{BackFact}
 use Rattle.cd_rules.specs.declared.facts.DeadFact.{DeadFact}
 use Rattle.cd_store.proofs.Picks.{picked_in, picked_from}
+use Rattle.cd_store.specs.Store.{StoreState}
 use Rattle.cd_context.specs.Justified.{StoredInTurn, IsInTurn}
 use Rattle.cd_context.specs.TakeUp.{Told, IsTakenUp, ClosedUpTo}
 
@@ -108,11 +109,11 @@ concluded_by_dead n key backs deads new f clauses live e range d q =
     (λ x m. absurd m) (λ x m. subst (λ w. OneOf x w) (sym e) (member_right x deads (f ∷ []) m)) q.0
 
 -- A new context: of no clause, it is closed but for what needs no premise.
-pub closed_at_first : (n : Normal) (key : List ℕ) (store : List (List Elem) × List ℕ) (backs : List BackFact) (deads : List DeadFact) (out : List (List Elem)) → store ≡ ([], []) → backs ≡ [] → deads ≡ []
-    → ((d : List Elem) → FromKey n key d → Redundant out d) → ClosedUpTo n key (record { backs = backs; deads = deads }) store.0 store.1 [] out
+pub closed_at_first : (n : Normal) (key : List ℕ) (store : StoreState) (backs : List BackFact) (deads : List DeadFact) (out : List (List Elem)) → store ≡ record { clauses = []; live = [] } → backs ≡ [] → deads ≡ []
+    → ((d : List Elem) → FromKey n key d → Redundant out d) → ClosedUpTo n key (record { backs = backs; deads = deads }) store.clauses store.live [] out
 closed_at_first n key store backs deads out e b k every d q =
-    inr (every d (concludes_more n key (IsTakenUp store.0 store.1 []) (λ c. ⊥) (IsBack backs) (λ r k a. ⊥) (IsDead deads) (λ r k. ⊥) d
-    (λ c t. subst (λ w. OneOf t.0 w) (ap (λ w. w.1) e) t.1) (λ r h a m. subst (λ w. IsBack w r h a) b m) (λ r h m. subst (λ w. IsDead w r h) k m) q))
+    inr (every d (concludes_more n key (IsTakenUp store.clauses store.live []) (λ c. ⊥) (IsBack backs) (λ r k a. ⊥) (IsDead deads) (λ r k. ⊥) d
+    (λ c t. subst (λ w. OneOf t.0 w) (ap (λ (w : StoreState). w.live) e) t.1) (λ r h a m. subst (λ w. IsBack w r h a) b m) (λ r h m. subst (λ w. IsDead w r h) k m) q))
 
 pub concluded_at_first : (n : Normal) (key : List ℕ) (clauses : List (List Elem)) (backs : List BackFact) (deads : List DeadFact) (d : List Elem) → FromKey n key d → ConcludesFrom n key (λ c. OneOf c clauses) backs deads d
 concluded_at_first n key clauses backs deads d q =

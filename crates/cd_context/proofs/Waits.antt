@@ -6,7 +6,7 @@ use Rattle.cd_base.specs.declared.normal.Normal.{Normal}
 use Rattle.cd_base.proofs.Members.{member_left, member_right}
 use Rattle.cd_clause.specs.declared.elem.Elem.{Elem}
 use Rattle.cd_rules.specs.Facts.{ConcludesFrom}
-use Rattle.cd_store.specs.Store.{IsNew}
+use Rattle.cd_store.specs.Store.{IsNew, StoreState}
 use Rattle.cd_context.specs.Justified.{StoredInTurn, IsInTurn}
 use Rattle.cd_context.specs.TakeUp.{Told, IsPutInto, IsWorking, TakesUpMore}
 use Rattle.cd_context.proofs.TakeUps.{more_from}
@@ -28,21 +28,21 @@ pub concluded_more : (n : Normal) (key : List ℕ) (told : Told) (cs : List (Lis
 concluded_more n key told cs new x o e q = subst (λ z. ConcludesFrom n key (λ c. OneOf c z) told.backs told.deads o) (sym e)
     (more_from n key told (λ c. OneOf c cs) (λ c. OneOf c (cs ++ x ∷ [])) o (λ c h. member_left c cs (x ∷ []) h) q)
 
-pub in_turn_new : (n : Normal) (key : List ℕ) (told : Told) (old new : List (List Elem) × List ℕ) (o : List Elem) (k : ℕ) → IsInTurn n key told.backs told.deads old.0
-    → ConcludesFrom n key (λ c. OneOf c old.0) told.backs told.deads o → IsNew old o new k → IsInTurn n key told.backs told.deads new.0
-in_turn_new n key told old new o k t q s = subst (λ z. IsInTurn n key told.backs told.deads z) (sym s.stored) (in_turn_more n key told old.0 o t q)
+pub in_turn_new : (n : Normal) (key : List ℕ) (told : Told) (old new : StoreState) (o : List Elem) (k : ℕ) → IsInTurn n key told.backs told.deads old.clauses
+    → ConcludesFrom n key (λ c. OneOf c old.clauses) told.backs told.deads o → IsNew old o new k → IsInTurn n key told.backs told.deads new.clauses
+in_turn_new n key told old new o k t q s = subst (λ z. IsInTurn n key told.backs told.deads z) (sym s.stored) (in_turn_more n key told old.clauses o t q)
 
-pub working_new : (n : Normal) (key : List ℕ) (told : Told) (old new : List (List Elem) × List ℕ) (waiting after : List ℕ) (o : List Elem) (k : ℕ) → IsWorking n key told old.0 waiting
-    → ConcludesFrom n key (λ c. OneOf c old.0) told.backs told.deads o → IsNew old o new k → IsPutInto k waiting after → IsWorking n key told new.0 after
+pub working_new : (n : Normal) (key : List ℕ) (told : Told) (old new : StoreState) (waiting after : List ℕ) (o : List Elem) (k : ℕ) → IsWorking n key told old.clauses waiting
+    → ConcludesFrom n key (λ c. OneOf c old.clauses) told.backs told.deads o → IsNew old o new k → IsPutInto k waiting after → IsWorking n key told new.clauses after
 working_new n key told old new waiting after o k w q s p =
-    let l : length new.0 ≡ length old.0 + 1 = ap (λ z. length z) s.stored ∙ length-append old.0 (o ∷ []) in
+    let l : length new.clauses ≡ length old.clauses + 1 = ap (λ z. length z) s.stored ∙ length-append old.clauses (o ∷ []) in
     record {
       in_turn = in_turn_new n key told old new o k w.in_turn q s;
-      in_range = λ m h. elim (p.only m h) [ inl e ↦ let x = s.next in omega arith | inr i ↦ let x : m < length old.0 = w.in_range m i in omega arith ];
+      in_range = λ m h. elim (p.only m h) [ inl e ↦ let x = s.next in omega arith | inr i ↦ let x : m < length old.clauses = w.in_range m i in omega arith ];
       fewer = let x = w.fewer in let y = p.count in omega arith;
     }
 
-pub takes_up_new : (old new : List (List Elem) × List ℕ) (waiting after first_waiting : List ℕ) (first : List (List Elem)) (o : List Elem) (k : ℕ) → IsNew old o new k → IsPutInto k waiting after
-    → TakesUpMore first first_waiting old.0 waiting → TakesUpMore first first_waiting new.0 after
+pub takes_up_new : (old new : StoreState) (waiting after first_waiting : List ℕ) (first : List (List Elem)) (o : List Elem) (k : ℕ) → IsNew old o new k → IsPutInto k waiting after
+    → TakesUpMore first first_waiting old.clauses waiting → TakesUpMore first first_waiting new.clauses after
 takes_up_new old new waiting after fw first o k s p g =
-    let l : length new.0 ≡ length old.0 + 1 = ap (λ z. length z) s.stored ∙ length-append old.0 (o ∷ []) in let y = p.count in omega arith
+    let l : length new.clauses ≡ length old.clauses + 1 = ap (λ z. length z) s.stored ∙ length-append old.clauses (o ∷ []) in let y = p.count in omega arith

@@ -79,12 +79,12 @@ abbrev pub HasConcluded : Normal → List ℕ → Told → List (List Elem) → 
     → List (List Elem) → Type 0
 HasConcluded n key told clauses live waiting premise out =
     (taken : List ℕ) → AreTakenUp live waiting taken → (d : List Elem)
-        → FromClause n key clauses taken premise told.backs told.deads d → Redundant out d
+    → FromClause n key clauses taken premise told.backs told.deads d → Redundant out d
 
 -- what can be concluded with the premise and clauses that were taken up can be concluded with it and these clauses
 abbrev pub AreEnough : Normal → List (List Elem) → List ℕ → List ℕ → ℕ → List ℕ → Type 0
 AreEnough n clauses live waiting premise numbers =
     (taken : List ℕ) → AreTakenUp live waiting taken
-        → (key : List ℕ) (backs : List BackFact) (deads : List DeadFact) (d : List Elem)
+    → (key : List ℕ) (backs : List BackFact) (deads : List DeadFact) (d : List Elem)
     → FromClause n key clauses taken premise backs deads d
     → FromClause n key clauses numbers premise backs deads d

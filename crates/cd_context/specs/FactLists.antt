@@ -18,8 +18,14 @@ pub record ByKind : Type 0 where
 
 -- a state with these facts, and no clause
 abbrev pub told : ByKind → State
-told lists = record { key = []; clauses = []; live = []; links = lists.links; backs = lists.backs;
-    deads = lists.deads }
+told lists = record {
+  key = [];
+  clauses = [];
+  live = [];
+  links = lists.links;
+  backs = lists.backs;
+  deads = lists.deads;
+}
 
 -- whether they are the same fact
 abbrev pub same_fact : Fact → Fact → Bool

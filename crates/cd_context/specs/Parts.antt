@@ -48,7 +48,7 @@ IsLinkAt n own c i note = (r : ℕ) × (k : List ℕ) × (slice_index_or c i (Pl
 abbrev pub IsBackAt : Normal → List ℕ → List LinkFact → List Elem → ℕ → Note → Type 0
 IsBackAt n own links c i note =
     (a : ℕ) × (slice_index_or c i (Plain 0) ≡ Plain a) × Eligible n (Plain a) c
-        × ((f : LinkFact) × OneOf f links × IsUsefulBack n own a f note)
+    × ((f : LinkFact) × OneOf f links × IsUsefulBack n own a f note)
 
 -- the link for an eligible existential of the clause
 abbrev pub IsLinkOf : Normal → List ℕ → List Elem → Note → Type 0

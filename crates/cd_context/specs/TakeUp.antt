@@ -8,6 +8,7 @@ use Rattle.cd_clause.specs.Numbers.{picked}
 use Rattle.cd_rules.specs.declared.facts.BackFact.{BackFact}
 use Rattle.cd_rules.specs.declared.facts.DeadFact.{DeadFact}
 use Rattle.cd_rules.specs.Facts.{ConcludesFrom}
+use Rattle.cd_store.specs.Store.{StoreState, IsStore}
 use Rattle.cd_context.specs.Justified.{IsInTurn}
 
 -- what a context was told of the contexts of its existentials
@@ -25,7 +26,7 @@ abbrev pub ClosedUpTo : Normal → List ℕ → Told → List (List Elem) → Li
     → List (List Elem) → Type 0
 ClosedUpTo n key told clauses live waiting out =
     (d : List Elem) → ConcludesFrom n key (IsTakenUp clauses live waiting) told.backs told.deads d
-        → Redundant (picked clauses live) d ⊎ Redundant out d
+    → Redundant (picked clauses live) d ⊎ Redundant out d
 
 -- one of the numbers that wait is no longer there
 pub record IsTakenFrom (n : ℕ) (old new : List ℕ) : Type 0 where
@@ -59,3 +60,11 @@ Stays live waiting live_new waiting_new = (k : ℕ) → OneOf k live_new → (On
 -- the clauses are those of before, with more of them or not
 abbrev pub Follows : List (List Elem) → List (List Elem) → Type 0
 Follows old new = (more : List (List Elem)) × (new ≡ old ++ more)
+
+-- what comes of a store to which clauses are added, or none: it has the clauses of before, and of their numbers those that are live were
+-- live
+pub record Continues (old new : StoreState) : Type 0 where
+  pub follows : Follows old.clauses new.clauses
+  pub survivors : (k : ℕ) → OneOf k new.live → k < length old.clauses → OneOf k old.live
+  -- it keeps what a store keeps
+  pub store : IsStore old.clauses old.live → IsStore new.clauses new.live

@@ -38,17 +38,15 @@ pub(crate) fn beside(
     waiting: &Waiting,
     premise: usize,
 ) -> Result<Vec<usize>, Memory>
-    requires { premise < length store.now.0 }
-    ensures live { IfOk result (λ others. (k : ℕ) → OneOf k others.items → OneOf k store.now.1) }
+    requires { premise < length store.now.clauses }
+    ensures live { IfOk result (λ others. (k : ℕ) → OneOf k others.items → OneOf k store.now.live) }
     ensures enough { IfOk result
-        (λ others. AreEnough index.now.normal store.now.0 store.now.1
+        (λ others. AreEnough index.now.normal store.now.clauses store.now.live
         (numbers waiting.now) premise others.items) }
 {
     let mut found = Vec::new(alloc);
     push_beside(alloc, index, store, &store.clauses()[premise], &mut found)?;
     put_in_order(&mut found);
-    // what every store keeps is said where its live numbers are lent
-    let _live = store.live();
     let others = taken_up(alloc, found.as_slice(), store, waiting, premise)?;
     Ok(others)
 }
@@ -69,8 +67,8 @@ fn taken_up(
     waiting: &Waiting,
     premise: usize,
 ) -> Result<Vec<usize>, Memory>
-    ensures live { IfOk result (λ others. (k : ℕ) → OneOf k others.items → OneOf k store.now.1) }
-    ensures every { IfOk result (λ others. (k : ℕ) → OneOf k candidates.now → OneOf k store.now.1
+    ensures live { IfOk result (λ others. (k : ℕ) → OneOf k others.items → OneOf k store.now.live) }
+    ensures every { IfOk result (λ others. (k : ℕ) → OneOf k candidates.now → OneOf k store.now.live
         → (OneOf k (numbers waiting.now) → ⊥) → (k ≡ premise → ⊥) → OneOf k others.items) }
 {
     let mut others = Vec::new(alloc);
@@ -86,8 +84,8 @@ fn taken_up(
 /// Whether the clause of this number was taken up before the premise: it is live, another one, and doesn't wait. Logarithmic in the live
 /// clauses.
 fn is_taken_up(store: &Store, waiting: &Waiting, premise: usize, number: usize) -> bool
-    ensures live { result ≡ true → OneOf number store.now.1 }
-    ensures every { OneOf number store.now.1 → (OneOf number (numbers waiting.now) → ⊥)
+    ensures live { result ≡ true → OneOf number store.now.live }
+    ensures every { OneOf number store.now.live → (OneOf number (numbers waiting.now) → ⊥)
         → (number ≡ premise → ⊥) → result ≡ true }
 {
     if number == premise {
@@ -107,9 +105,9 @@ fn push_beside(
     clause: &Clause,
     found: &mut Vec<usize>,
 ) -> Result<(), Memory>
-    requires { (e : Elem) → OneOf e clause.now → IsHad store.now.0 e }
+    requires { (e : Elem) → OneOf e clause.now → IsHad store.now.clauses e }
     ensures { OnOk result (Gains (λ m. (e : Elem) × Eligible index.now.normal e clause.now
-        × IsBeside index.now.normal store.now.0 e m) found.old.items found.new.items) }
+        × IsBeside index.now.normal store.now.clauses e m) found.old.items found.new.items) }
 {
     let count = clause.elems().len();
     'places: for i in 0..count {
@@ -129,8 +127,8 @@ fn push_beside_at(
     found: &mut Vec<usize>,
 ) -> Result<(), Memory>
     requires place { i < length clause.now }
-    requires had { (e : Elem) → OneOf e clause.now → IsHad store.now.0 e }
-    ensures { OnOk result (Gains (IsBesideAt index.now.normal store.now.0 clause.now i)
+    requires had { (e : Elem) → OneOf e clause.now → IsHad store.now.clauses e }
+    ensures { OnOk result (Gains (IsBesideAt index.now.normal store.now.clauses clause.now i)
         found.old.items found.new.items) }
 {
     if eligible(clause, i, index.normal()) {
@@ -147,9 +145,9 @@ fn push_beside_elem(
     elem: &Elem,
     found: &mut Vec<usize>,
 ) -> Result<(), Memory>
-    requires { IsHad store.now.0 elem.now }
-    ensures { OnOk result (Gains (IsBeside index.now.normal store.now.0 elem.now) found.old.items
-        found.new.items) }
+    requires { IsHad store.now.clauses elem.now }
+    ensures { OnOk result (Gains (IsBeside index.now.normal store.now.clauses elem.now)
+        found.old.items found.new.items) }
 {
     match elem {
         Elem::Plain(atom) => {
@@ -171,7 +169,7 @@ fn push_universal(
     atom: Atom,
     found: &mut Vec<usize>,
 ) -> Result<(), Memory>
-    ensures { OnOk result (Gains (IsBesideUniversal index.now.normal store.now.0 atom)
+    ensures { OnOk result (Gains (IsBesideUniversal index.now.normal store.now.clauses atom)
         found.old.items found.new.items) }
 {
     if has_universal(index, atom) {
@@ -186,7 +184,8 @@ fn numbers_in_place_of(
     store: &Store,
     axioms: usize,
 ) -> Result<Option<Vec<u64>>, Memory>
-    ensures { IfOk result (λ some. IfSome some (λ atoms. HasAllAtoms store.now.0 atoms.items)) }
+    ensures { IfOk result (λ some.
+        IfSome some (λ atoms. HasAllAtoms store.now.clauses atoms.items)) }
 {
     if axioms <= FEW {
         return Ok(None);
@@ -213,7 +212,7 @@ fn push_exist(
     store: &Store,
     found: &mut Vec<usize>,
 ) -> Result<(), Memory>
-    ensures { OnOk result (Gains (IsBesideExist index.now.normal store.now.0) found.old.items
+    ensures { OnOk result (Gains (IsBesideExist index.now.normal store.now.clauses) found.old.items
         found.new.items) }
 {
     let universals = index.normal().n4.items().len();
@@ -230,7 +229,7 @@ fn push_exist(
 
 /// The same by a walk over the universals.
 fn push_by_universals(index: &Index, store: &Store, found: &mut Vec<usize>) -> Result<(), Memory>
-    ensures { OnOk result (Gains (IsBesideExist index.now.normal store.now.0) found.old.items
+    ensures { OnOk result (Gains (IsBesideExist index.now.normal store.now.clauses) found.old.items
         found.new.items) }
 {
     let universals = index.normal().n4.items();
@@ -248,8 +247,8 @@ fn push_by_atoms(
     atoms: &[u64],
     found: &mut Vec<usize>,
 ) -> Result<(), Memory>
-    requires { HasAllAtoms store.now.0 atoms.now }
-    ensures { OnOk result (Gains (IsBesideExist index.now.normal store.now.0) found.old.items
+    requires { HasAllAtoms store.now.clauses atoms.now }
+    ensures { OnOk result (Gains (IsBesideExist index.now.normal store.now.clauses) found.old.items
         found.new.items) }
 {
     'atoms: for i in 0..atoms.len() {
@@ -265,7 +264,7 @@ fn push_if_universal(
     number: u64,
     found: &mut Vec<usize>,
 ) -> Result<(), Memory>
-    ensures { OnOk result (Gains (IsBesideByUniversal index.now.normal store.now.0 number)
+    ensures { OnOk result (Gains (IsBesideByUniversal index.now.normal store.now.clauses number)
         found.old.items found.new.items) }
 {
     let Some(atom) = atom_of(index, number) else {
@@ -295,9 +294,9 @@ fn push_by_con(
     atom: Atom,
     found: &mut Vec<usize>,
 ) -> Result<(), Memory>
-    requires { IsHad store.now.0 (Plain atom) }
-    ensures { OnOk result (Gains (IsBesideByCon index.now.normal store.now.0 atom) found.old.items
-        found.new.items) }
+    requires { IsHad store.now.clauses (Plain atom) }
+    ensures { OnOk result (Gains (IsBesideByCon index.now.normal store.now.clauses atom)
+        found.old.items found.new.items) }
 {
     let all = with_left(index, atom);
     let own = filed(index, atom);
@@ -322,9 +321,9 @@ fn push_by_fewer(
     requires every { HasAllWith index.now.normal.n1 atom all.now }
     requires filing { atom < index.now.normal.atoms
         → IsFiling index.now.normal.n1 index.now.normal.atoms index.now.filed }
-    requires had { IsHad store.now.0 (Plain atom) }
-    ensures { OnOk result (Gains (IsBesideByCon index.now.normal store.now.0 atom) found.old.items
-        found.new.items) }
+    requires had { IsHad store.now.clauses (Plain atom) }
+    ensures { OnOk result (Gains (IsBesideByCon index.now.normal store.now.clauses atom)
+        found.old.items found.new.items) }
 {
     if let Some(atoms) = numbers_in_place_of(alloc, store, all.len())? {
         if are_fewer(index, atoms.as_slice(), all.len()) {
@@ -366,12 +365,12 @@ fn push_by_filed(
     atom: Atom,
     found: &mut Vec<usize>,
 ) -> Result<(), Memory>
-    requires all { HasAllAtoms store.now.0 atoms.now }
+    requires all { HasAllAtoms store.now.clauses atoms.now }
     requires filing { atom < index.now.normal.atoms
         → IsFiling index.now.normal.n1 index.now.normal.atoms index.now.filed }
-    requires had { IsHad store.now.0 (Plain atom) }
-    ensures { OnOk result (Gains (IsBesideByCon index.now.normal store.now.0 atom) found.old.items
-        found.new.items) }
+    requires had { IsHad store.now.clauses (Plain atom) }
+    ensures { OnOk result (Gains (IsBesideByCon index.now.normal store.now.clauses atom)
+        found.old.items found.new.items) }
 {
     'atoms: for i in 0..atoms.len() {
         push_by_number(index, store, atoms[i], atom, found)?;
@@ -387,10 +386,10 @@ fn push_by_number(
     atom: Atom,
     found: &mut Vec<usize>,
 ) -> Result<(), Memory>
-    requires { IsHad store.now.0 (Plain atom) }
+    requires { IsHad store.now.clauses (Plain atom) }
     ensures { OnOk result (Gains
-        (IsBesideByFiled index.now.normal index.now.filed store.now.0 atom number) found.old.items
-        found.new.items) }
+        (IsBesideByFiled index.now.normal index.now.filed store.now.clauses atom number)
+        found.old.items found.new.items) }
 {
     let Some(at) = atom_of(index, number) else {
         return Ok(());
@@ -408,8 +407,8 @@ fn push_by_axioms(
     found: &mut Vec<usize>,
 ) -> Result<(), Memory>
     requires numbers { AreNumbers index.now.normal.n1 axioms.now }
-    requires had { IsHad store.now.0 (Plain atom) }
-    ensures { OnOk result (Gains (IsBesideByOne index.now.normal store.now.0 atom axioms.now)
+    requires had { IsHad store.now.clauses (Plain atom) }
+    ensures { OnOk result (Gains (IsBesideByOne index.now.normal store.now.clauses atom axioms.now)
         found.old.items found.new.items) }
 {
     let all = index.normal().n1.items();
@@ -428,8 +427,8 @@ fn push_by_left(
     atom: Atom,
     found: &mut Vec<usize>,
 ) -> Result<(), Memory>
-    requires { IsHad store.now.0 (Plain atom) }
-    ensures { OnOk result (Gains (IsBesideLeft store.now.0 atom left.now) found.old.items
+    requires { IsHad store.now.clauses (Plain atom) }
+    ensures { OnOk result (Gains (IsBesideLeft store.now.clauses atom left.now) found.old.items
         found.new.items) }
 {
     let Some(place) = place_of(left, atom) else {
@@ -458,7 +457,7 @@ fn place_of(atoms: &[Atom], atom: Atom) -> Option<usize>
 
 /// Whether each of the atoms may stand in a stored clause: true wherever each does. Two look-ups for each.
 fn may_all_stand(store: &Store, atoms: &[Atom]) -> bool
-    ensures { ((b : ℕ) → OneOf b atoms.now → IsHad store.now.0 (Plain b)) → result ≡ true }
+    ensures { ((b : ℕ) → OneOf b atoms.now → IsHad store.now.clauses (Plain b)) → result ≡ true }
 {
     'atoms: for i in 0..atoms.len() {
         if !store.may_have(atoms[i]) {
@@ -476,7 +475,7 @@ fn push_others(
     found: &mut Vec<usize>,
 ) -> Result<(), Memory>
     ensures { OnOk result (Gains (λ m. (j : ℕ) × (j < length atoms.now) × (j ≡ place → ⊥)
-        × HasElem store.now.0 (Plain (slice_index_or atoms.now j 0)) m) found.old.items
+        × HasElem store.now.clauses (Plain (slice_index_or atoms.now j 0)) m) found.old.items
         found.new.items) }
 {
     'atoms: for i in 0..atoms.len() {

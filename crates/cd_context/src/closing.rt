@@ -1,12 +1,11 @@
 //! Closing a context under its rules.
-ghost use Rattle.std.specs.Prelude.{◌<◌, ℕ, [], List, length, IfOk, OnOk};
+ghost use Rattle.std.specs.Prelude.{ℕ, [], List, IfOk, OnOk};
 ghost use Rattle.cd_base.specs.Lists.{OneOf};
 ghost use Rattle.cd_clause.specs.declared.elem.Elem.{Elem};
 ghost use Rattle.cd_rules.specs.Facts.{ConcludesFrom};
-ghost use Rattle.cd_store.specs.Store.{IsStore};
 ghost use Rattle.cd_context.specs.Beside.{HasConcluded};
 ghost use Rattle.cd_context.specs.Justified.{IsInTurn};
-ghost use Rattle.cd_context.specs.TakeUp.{ClosedUpTo, IsWorking, TakesUpMore, Stays, Follows};
+ghost use Rattle.cd_context.specs.TakeUp.{ClosedUpTo, Continues, IsWorking, TakesUpMore, Stays};
 ghost use Rattle.cd_context.specs.Waits.{numbers};
 
 use crate::beside::beside;
@@ -32,52 +31,18 @@ pub(crate) fn close_with(
     conclusions: Vec<Clause>,
 ) -> Result<(), Memory>
     requires closed { ClosedUpTo index.now.normal key.now
-        (record { backs = backs.now; deads = deads.now }) store.old.0 store.old.1 []
+        (record { backs = backs.now; deads = deads.now }) store.old.clauses store.old.live []
         conclusions.items }
-    requires in_turn { IsInTurn index.now.normal key.now backs.now deads.now store.old.0 }
+    requires in_turn { IsInTurn index.now.normal key.now backs.now deads.now store.old.clauses }
     requires concluded { (d : List Elem) → OneOf d conclusions.items
-        → ConcludesFrom index.now.normal key.now (λ c. OneOf c store.old.0) backs.now deads.now d }
+        → ConcludesFrom index.now.normal key.now (λ c. OneOf c store.old.clauses) backs.now
+        deads.now d }
     ensures closed { OnOk result
         (ClosedUpTo index.now.normal key.now (record { backs = backs.now; deads = deads.now })
-        store.new.0 store.new.1 [] []) }
-    ensures in_turn { IsInTurn index.now.normal key.now backs.now deads.now store.new.0 }
-    ensures store { IsStore store.new.0 store.new.1 }
-    ensures follows { Follows store.old.0 store.new.0 }
-    ensures survivors { (k : ℕ) → OneOf k store.new.1 → k < length store.old.0
-        → OneOf k store.old.1 }
+        store.new.clauses store.new.live [] []) }
+    ensures in_turn { IsInTurn index.now.normal key.now backs.now deads.now store.new.clauses }
+    ensures continues { Continues store.old store.new }
 {
-    let done = add_and_close(alloc, index, key, backs, deads, store, conclusions);
-    // what every store keeps is said where its live numbers are lent
-    let _live = store.live();
-    done
-}
-
-/// Adds the conclusions, and takes up those that were new, and what comes of them. The cost is that of both.
-fn add_and_close(
-    alloc: Global,
-    index: &Index,
-    key: &Key,
-    backs: &[BackFact],
-    deads: &[DeadFact],
-    store: &mut Store,
-    conclusions: Vec<Clause>,
-) -> Result<(), Memory>
-    requires closed { ClosedUpTo index.now.normal key.now
-        (record { backs = backs.now; deads = deads.now }) store.old.0 store.old.1 []
-        conclusions.items }
-    requires in_turn { IsInTurn index.now.normal key.now backs.now deads.now store.old.0 }
-    requires concluded { (d : List Elem) → OneOf d conclusions.items
-        → ConcludesFrom index.now.normal key.now (λ c. OneOf c store.old.0) backs.now deads.now d }
-    ensures closed { OnOk result
-        (ClosedUpTo index.now.normal key.now (record { backs = backs.now; deads = deads.now })
-        store.new.0 store.new.1 [] []) }
-    ensures in_turn { IsInTurn index.now.normal key.now backs.now deads.now store.new.0 }
-    ensures follows { Follows store.old.0 store.new.0 }
-    ensures survivors { (k : ℕ) → OneOf k store.new.1 → k < length store.old.0
-        → OneOf k store.old.1 }
-{
-    // what every store keeps is said where its live numbers are lent
-    let _live = store.live();
     let mut waiting = Waiting::new(alloc);
     add_all(
         alloc,
@@ -104,26 +69,26 @@ fn add_all(
     conclusions: Vec<Clause>,
 ) -> Result<(), Memory>
     requires closed { ClosedUpTo index.now.normal key.now
-        (record { backs = backs.now; deads = deads.now }) store.old.0 store.old.1
+        (record { backs = backs.now; deads = deads.now }) store.old.clauses store.old.live
         (numbers waiting.old) conclusions.items }
     requires working { IsWorking index.now.normal key.now
-        (record { backs = backs.now; deads = deads.now }) store.old.0 (numbers waiting.old) }
+        (record { backs = backs.now; deads = deads.now }) store.old.clauses (numbers waiting.old) }
     requires concluded { (d : List Elem) → OneOf d conclusions.items
-        → ConcludesFrom index.now.normal key.now (λ c. OneOf c store.old.0) backs.now deads.now d }
+        → ConcludesFrom index.now.normal key.now (λ c. OneOf c store.old.clauses) backs.now
+        deads.now d }
     ensures closed { OnOk result
         (ClosedUpTo index.now.normal key.now (record { backs = backs.now; deads = deads.now })
-        store.new.0 store.new.1 (numbers waiting.new) []) }
+        store.new.clauses store.new.live (numbers waiting.new) []) }
     ensures working { OnOk result
         (IsWorking index.now.normal key.now (record { backs = backs.now; deads = deads.now })
-        store.new.0 (numbers waiting.new)) }
-    ensures in_turn { IsInTurn index.now.normal key.now backs.now deads.now store.new.0 }
-    ensures follows { Follows store.old.0 store.new.0 }
-    ensures survivors { (k : ℕ) → OneOf k store.new.1 → k < length store.old.0
-        → OneOf k store.old.1 }
-    ensures stays { OnOk result (Stays store.old.1 (numbers waiting.old) store.new.1
+        store.new.clauses (numbers waiting.new)) }
+    ensures in_turn { IsInTurn index.now.normal key.now backs.now deads.now store.new.clauses }
+    ensures continues { Continues store.old store.new }
+    ensures stays { OnOk result (Stays store.old.live (numbers waiting.old) store.new.live
         (numbers waiting.new)) }
     ensures takes_up { OnOk result
-        (TakesUpMore store.old.0 (numbers waiting.old) store.new.0 (numbers waiting.new)) }
+        (TakesUpMore store.old.clauses (numbers waiting.old) store.new.clauses
+        (numbers waiting.new)) }
 {
     'conclusions: for conclusion in conclusions {
         let elements = conclusion.elems().len();
@@ -149,21 +114,17 @@ fn close(
     waiting: &mut Waiting,
 ) -> Result<(), Memory>
     requires closed { ClosedUpTo index.now.normal key.now
-        (record { backs = backs.now; deads = deads.now }) store.old.0 store.old.1
+        (record { backs = backs.now; deads = deads.now }) store.old.clauses store.old.live
         (numbers waiting.old) [] }
     requires working { IsWorking index.now.normal key.now
-        (record { backs = backs.now; deads = deads.now }) store.old.0 (numbers waiting.old) }
+        (record { backs = backs.now; deads = deads.now }) store.old.clauses (numbers waiting.old) }
     ensures closed { OnOk result
         (ClosedUpTo index.now.normal key.now (record { backs = backs.now; deads = deads.now })
-        store.new.0 store.new.1 [] []) }
-    ensures in_turn { IsInTurn index.now.normal key.now backs.now deads.now store.new.0 }
-    ensures follows { Follows store.old.0 store.new.0 }
-    ensures survivors { (k : ℕ) → OneOf k store.new.1 → k < length store.old.0
-        → OneOf k store.old.1 }
+        store.new.clauses store.new.live [] []) }
+    ensures in_turn { IsInTurn index.now.normal key.now backs.now deads.now store.new.clauses }
+    ensures continues { Continues store.old store.new }
 {
     'turns: while let Some(number) = waiting.take() {
-        // the number of clauses fits, and so bounds the turns: each has one more taken up
-        let _stored = store.clauses().len();
         if !store.is_live(number) {
             continue;
         }
@@ -186,22 +147,22 @@ fn conclude(
     waiting: &Waiting,
     number: usize,
 ) -> Result<Vec<Clause>, Memory>
-    requires { OneOf number store.now.1 }
+    requires { OneOf number store.now.live }
     ensures only { IfOk result (λ conclusions. (d : List Elem) → OneOf d conclusions.items
-        → ConcludesFrom index.now.normal key.now (λ c. OneOf c store.now.0) backs.now deads.now d) }
+        → ConcludesFrom index.now.normal key.now (λ c. OneOf c store.now.clauses) backs.now
+        deads.now d) }
     ensures every { IfOk result (λ conclusions.
         HasConcluded index.now.normal key.now (record { backs = backs.now; deads = deads.now })
-        store.now.0 store.now.1 (numbers waiting.now) number conclusions.items) }
+        store.now.clauses store.now.live (numbers waiting.now) number conclusions.items) }
 {
-    // what every store keeps is said where its live numbers are lent
-    let _live = store.live();
+    let clauses = store.clauses();
     let others = beside(alloc, index, store, waiting, number)?;
     let mut conclusions = Vec::new(alloc);
     on_clause(
         alloc,
         index,
         key,
-        store.clauses(),
+        clauses,
         others.as_slice(),
         number,
         backs,

@@ -40,8 +40,14 @@ impl Model for Context {
 
     ghost Value = { State };
 
-    ghost view = { λ c. record { key = c.key; clauses = c.store.0; live = c.store.1;
-        links = c.facts.links; backs = c.facts.backs; deads = c.facts.deads } };
+    ghost view = { λ c. record {
+      key = c.key;
+      clauses = c.store.clauses;
+      live = c.store.live;
+      links = c.facts.links;
+      backs = c.facts.backs;
+      deads = c.facts.deads;
+    } };
 }
 
 impl Context {
@@ -196,8 +202,6 @@ impl Context {
         ensures err { OnErr result (out.new.items ≡ out.old.items) }
     {
         let stored = self.store.clauses().len();
-        // what every store keeps is said where its live numbers are lent
-        let _live = self.store.live();
         let mut conclusions = Vec::new(alloc);
         conclude_back(alloc, index, &self.store, &back, &mut conclusions)?;
         self.facts.add_back(back)?;
@@ -238,8 +242,6 @@ impl Context {
         ensures err { OnErr result (out.new.items ≡ out.old.items) }
     {
         let stored = self.store.clauses().len();
-        // what every store keeps is said where its live numbers are lent
-        let _live = self.store.live();
         let mut conclusions = Vec::new(alloc);
         conclude_dead(alloc, index, &self.store, &dead, &mut conclusions)?;
         self.facts.add_dead(dead)?;

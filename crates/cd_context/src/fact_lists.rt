@@ -27,8 +27,11 @@ impl Model for FactLists {
 
     ghost Value = { ByKind };
 
-    ghost view = { λ l. record { links = l.links.items; backs = l.backs.items;
-        deads = l.deads.items } };
+    ghost view = { λ l. record {
+      links = l.links.items;
+      backs = l.backs.items;
+      deads = l.deads.items;
+    } };
 
     ghost invariant = { λ l. Ties l.all.keys
         (record { links = l.links.items; backs = l.backs.items; deads = l.deads.items }) };
@@ -71,8 +74,14 @@ impl FactLists {
     /// Whether a context with these facts has the fact. Every context has `Start`. One look-up.
     pub(crate) fn has(&self, fact: &Fact) -> bool
         ensures { (key : List ℕ) (clauses : List (List Elem)) (live : List ℕ)
-            → result ≡ has_fact (record { key = key; clauses = clauses; live = live;
-            links = self.now.links; backs = self.now.backs; deads = self.now.deads }) fact.now }
+            → result ≡ has_fact (record {
+              key = key;
+              clauses = clauses;
+              live = live;
+              links = self.now.links;
+              backs = self.now.backs;
+              deads = self.now.deads;
+            }) fact.now }
     {
         match fact {
             Fact::Start => true,
@@ -83,8 +92,11 @@ impl FactLists {
     /// Puts the link at the end of the links. One look-up, and linear in the literals of the key.
     pub(crate) fn add_link(&mut self, link: LinkFact) -> Result<(), Memory>
         ensures ok { OnOk result (self.new
-            ≡ record { links = self.old.links ++ link ∷ []; backs = self.old.backs;
-            deads = self.old.deads }) }
+            ≡ record {
+              links = self.old.links ++ link ∷ [];
+              backs = self.old.backs;
+              deads = self.old.deads;
+            }) }
         ensures err { OnErr result (self.new ≡ self.old) }
     {
         let fact = Fact::Link(link.key.copy()?, link.role);
@@ -97,8 +109,11 @@ impl FactLists {
     /// Puts the back at the end of the backs. One look-up, and linear in the literals of the key.
     pub(crate) fn add_back(&mut self, back: BackFact) -> Result<(), Memory>
         ensures ok { OnOk result (self.new
-            ≡ record { links = self.old.links; backs = self.old.backs ++ back ∷ [];
-            deads = self.old.deads }) }
+            ≡ record {
+              links = self.old.links;
+              backs = self.old.backs ++ back ∷ [];
+              deads = self.old.deads;
+            }) }
         ensures err { OnErr result (self.new ≡ self.old) }
     {
         let fact = Fact::Back(back.role, back.key.copy()?, back.atom);
@@ -111,8 +126,11 @@ impl FactLists {
     /// Puts the dead at the end of the deads. One look-up, and linear in the literals of the key.
     pub(crate) fn add_dead(&mut self, dead: DeadFact) -> Result<(), Memory>
         ensures ok { OnOk result (self.new
-            ≡ record { links = self.old.links; backs = self.old.backs;
-            deads = self.old.deads ++ dead ∷ [] }) }
+            ≡ record {
+              links = self.old.links;
+              backs = self.old.backs;
+              deads = self.old.deads ++ dead ∷ [];
+            }) }
         ensures err { OnErr result (self.new ≡ self.old) }
     {
         let fact = Fact::Dead(dead.role, dead.key.copy()?);

@@ -29,11 +29,9 @@ pub(crate) fn conclude_back(
     out: &mut Vec<Clause>,
 ) -> Result<(), Memory>
     ensures { (key : List ℕ) → Appends Among
-        (FromBack index.now.normal key store.now.0 store.now.1 back.now)
+        (FromBack index.now.normal key store.now.clauses store.now.live back.now)
         (IsOk result) out.old.items out.new.items }
 {
-    // what every store keeps is said where its live numbers are lent
-    let _live = store.live();
     let numbers = live_with(alloc, store, back.role, &back.key)?;
     let done = on_back(index, store.clauses(), numbers.as_slice(), back, out);
     drop(numbers);
@@ -49,11 +47,9 @@ pub(crate) fn conclude_dead(
     out: &mut Vec<Clause>,
 ) -> Result<(), Memory>
     ensures { (key : List ℕ) → Appends Among
-        (FromDead index.now.normal key store.now.0 store.now.1 dead.now)
+        (FromDead index.now.normal key store.now.clauses store.now.live dead.now)
         (IsOk result) out.old.items out.new.items }
 {
-    // what every store keeps is said where its live numbers are lent
-    let _live = store.live();
     let numbers = live_with(alloc, store, dead.role, &dead.key)?;
     let done = on_dead(index, store.clauses(), numbers.as_slice(), dead, out);
     drop(numbers);
@@ -62,9 +58,10 @@ pub(crate) fn conclude_dead(
 
 /// Numbers of live clauses, among them each that has this existential.
 fn live_with(alloc: Global, store: &Store, role: Role, key: &Key) -> Result<Vec<usize>, Memory>
-    ensures live { IfOk result (λ numbers. (k : ℕ) → OneOf k numbers.items → OneOf k store.now.1) }
-    ensures every { IfOk result (λ numbers. (k : ℕ) → OneOf k store.now.1
-        → HasElem store.now.0 (Exist role key.now) k → OneOf k numbers.items) }
+    ensures live { IfOk result (λ numbers. (k : ℕ) → OneOf k numbers.items
+        → OneOf k store.now.live) }
+    ensures every { IfOk result (λ numbers. (k : ℕ) → OneOf k store.now.live
+        → HasElem store.now.clauses (Exist role key.now) k → OneOf k numbers.items) }
 {
     let mut found = Vec::new(alloc);
     store.push_with_existential(role, key, &mut found)?;
@@ -75,7 +72,7 @@ fn live_with(alloc: Global, store: &Store, role: Role, key: &Key) -> Result<Vec<
 /// The live ones of these numbers. Logarithmic in the live clauses for each.
 fn live_among(alloc: Global, candidates: &[usize], store: &Store) -> Result<Vec<usize>, Memory>
     ensures { IfOk result (λ numbers. (k : ℕ) → OneOf k numbers.items
-        ↔ (OneOf k candidates.now × OneOf k store.now.1)) }
+        ↔ (OneOf k candidates.now × OneOf k store.now.live)) }
 {
     let mut numbers = Vec::new(alloc);
     'candidates: for i in 0..candidates.len() {

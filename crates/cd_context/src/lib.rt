@@ -7,8 +7,6 @@
 //! them is its facts.
 #![tactic(auto)]
 
-ghost use Rattle.cd_context.specs.Justified.{StoredDerived, OwedJustified};
-
 mod beside;
 mod closing;
 mod context;
@@ -16,6 +14,7 @@ mod distinct;
 mod fact_lists;
 mod fact_rules;
 mod facts;
+mod laws;
 mod live;
 mod notes;
 mod owing;
@@ -24,13 +23,4 @@ mod waiting;
 
 pub use context::Context;
 pub use facts::{Fact, LinkFact, Note};
-
-/// Whatever a context stores is derived for its key.
-pub fn stored_is_derived()
-    ensures { StoredDerived }
-{}
-
-/// Whatever a context owes goes to a key that can be reached, and is justified in its context.
-pub fn owed_is_justified()
-    ensures { OwedJustified }
-{}
+pub use laws::{owed_is_justified, stored_is_derived};

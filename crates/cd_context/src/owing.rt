@@ -32,11 +32,22 @@ pub(crate) fn owe_since(
     out: &mut Vec<Note>,
 ) -> Result<(), Memory>
     ensures { (backs : List BackFact) (deads : List DeadFact) → Sends index.now.normal (IsOk result)
-        (Owes index.now.normal (record { key = key.now; clauses = store.now.0;
-        live = filter (λ k. nat_lt k stored) store.now.1; links = links.now; backs = backs;
-        deads = deads }))
-        (record { key = key.now; clauses = store.now.0; live = store.now.1; links = links.now;
-        backs = backs; deads = deads })
+        (Owes index.now.normal (record {
+          key = key.now;
+          clauses = store.now.clauses;
+          live = filter (λ k. nat_lt k stored) store.now.live;
+          links = links.now;
+          backs = backs;
+          deads = deads;
+        }))
+        (record {
+          key = key.now;
+          clauses = store.now.clauses;
+          live = store.now.live;
+          links = links.now;
+          backs = backs;
+          deads = deads;
+        })
         out.old.items out.new.items }
 {
     owe_all(
@@ -107,10 +118,22 @@ pub(crate) fn owe_link(
 ) -> Result<(), Memory>
     ensures { (earlier : List LinkFact) (backs : List BackFact) (deads : List DeadFact)
         → Sends index.now.normal (IsOk result)
-        (Owes index.now.normal (record { key = key.now; clauses = store.now.0; live = store.now.1;
-        links = earlier; backs = backs; deads = deads }))
-        (record { key = key.now; clauses = store.now.0; live = store.now.1;
-        links = earlier ++ link.now ∷ []; backs = backs; deads = deads })
+        (Owes index.now.normal (record {
+          key = key.now;
+          clauses = store.now.clauses;
+          live = store.now.live;
+          links = earlier;
+          backs = backs;
+          deads = deads;
+        }))
+        (record {
+          key = key.now;
+          clauses = store.now.clauses;
+          live = store.now.live;
+          links = earlier ++ link.now ∷ [];
+          backs = backs;
+          deads = deads;
+        })
         out.old.items out.new.items }
 {
     tell_all(

@@ -26,11 +26,22 @@ pub(crate) fn send_since(
 ) -> Result<(), Memory>
     ensures ok { OnOk result ((backs : List BackFact) (deads : List DeadFact)
         → Sends index.now.normal (Unit {0})
-        (Owes index.now.normal (record { key = key.now; clauses = store.now.0;
-        live = filter (λ k. nat_lt k stored) store.now.1; links = links.now; backs = backs;
-        deads = deads }))
-        (record { key = key.now; clauses = store.now.0; live = store.now.1; links = links.now;
-        backs = backs; deads = deads })
+        (Owes index.now.normal (record {
+          key = key.now;
+          clauses = store.now.clauses;
+          live = filter (λ k. nat_lt k stored) store.now.live;
+          links = links.now;
+          backs = backs;
+          deads = deads;
+        }))
+        (record {
+          key = key.now;
+          clauses = store.now.clauses;
+          live = store.now.live;
+          links = links.now;
+          backs = backs;
+          deads = deads;
+        })
         out.old.items out.new.items) }
     ensures err { OnErr result (out.new.items ≡ out.old.items) }
 {

@@ -54,17 +54,17 @@ filed_existential f n (x ∷ (y ∷ c)) r k h m = elim m [
 ]
 
 -- a stored clause with an element is in one of the two lists of the element
-pub elem_listed : (f : List (ℕ × List ℕ)) (store : List (List Elem) × List ℕ) (clauses : List (List Elem)) (live : List ℕ) (e : Elem) (n : ℕ) → (clauses, live) ≡ store → AreFiled f clauses → HasElem store.0 e n
+pub elem_listed : (f : List (ℕ × List ℕ)) (stored clauses : List (List Elem)) (e : Elem) (n : ℕ) → clauses ≡ stored → AreFiled f clauses → HasElem stored e n
     → OneOf n (listed f (ends_in e)) ⊎ OneOf n (listed f (goes_on_from e))
-elem_listed f store clauses live e n q filed h =
-    let k : HasElem clauses e n = subst (λ (s : List (List Elem) × List ℕ). HasElem s.0 e n) (sym q) h in
+elem_listed f stored clauses e n q filed h =
+    let k : HasElem clauses e n = subst (λ (s : List (List Elem)). HasElem s e n) (sym q) h in
     filed_with f n (get_or clauses n []) e (filed n k.0) k.1
 
 -- a stored clause with an existential is in their list
-pub existential_listed : (f : List (ℕ × List ℕ)) (store : List (List Elem) × List ℕ) (clauses : List (List Elem)) (live : List ℕ) (n : ℕ) → (clauses, live) ≡ store → AreFiled f clauses → HasExistential store.0 n
+pub existential_listed : (f : List (ℕ × List ℕ)) (stored clauses : List (List Elem)) (n : ℕ) → clauses ≡ stored → AreFiled f clauses → HasExistential stored n
     → OneOf n (listed f existentials)
-existential_listed f store clauses live n e filed h =
-    let k : HasElem clauses (Exist h.0 h.1) n = subst (λ (s : List (List Elem) × List ℕ). HasElem s.0 (Exist h.0 h.1) n) (sym e) h.2 in
+existential_listed f stored clauses n e filed h =
+    let k : HasElem clauses (Exist h.0 h.1) n = subst (λ (s : List (List Elem)). HasElem s (Exist h.0 h.1) n) (sym e) h.2 in
     filed_existential f n (get_or clauses n []) h.0 h.1 (filed n k.0) k.1
 
 -- what is in a list shows that it isn't empty

@@ -38,6 +38,9 @@ ascends_append (k ∷ ns) n a h = (
   ascends_append ns n a.1 (λ m i. h m (inr i)),
 )
 
+pub store_empty : IsStore [] []
+store_empty = record { in_range = λ n h. absurd h; ascends = tt; covered = λ c h. absurd h; apart = tt; minimal = λ m k h i w. absurd h }
+
 pub redundant_after : (w : List Elem) (before after : List (List Elem)) (d : List Elem) → IsAdded w before after → Redundant before d → Redundant after d
 redundant_after w before after d a r = elim (a.kept r.0 r.1) [
   | inl m ↦ (r.0, m, r.2)
@@ -112,8 +115,8 @@ module _ (clauses new_clauses : List (List Elem)) (live after new_live : List �
   pub store_new : IsStore new_clauses new_live
   store_new = subst (λ q. IsStore q new_live) (sym e) (subst (λ q. IsStore (clauses ++ c ∷ []) q) (sym lives) (is_store clauses live after c s sifts free))
 
-  pub is_new : IsNew (clauses, live) c (new_clauses, new_live) n
-  is_new = subst (λ q. IsNew (clauses, live) c (q, new_live) n) (sym e) (subst (λ q. IsNew (clauses, live) c (clauses ++ c ∷ [], q) n) (sym lives) record {
+  pub is_new : IsNew (record { clauses = clauses; live = live }) c (record { clauses = new_clauses; live = new_live }) n
+  is_new = subst (λ q. IsNew (record { clauses = clauses; live = live }) c (record { clauses = q; live = new_live }) n) (sym e) (subst (λ q. IsNew (record { clauses = clauses; live = live }) c (record { clauses = clauses ++ c ∷ []; live = q }) n) (sym lives) record {
     next = k;
     stored = refl;
     added = is_added clauses live after c s sifts free;

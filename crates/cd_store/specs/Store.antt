@@ -7,6 +7,11 @@ use Rattle.cd_clause.specs.Numbers.{picked}
 use Rattle.cd_store.specs.declared.store.Added.{Added}
 use Rattle.cd_store.specs.declared.store.Added.TheVariants.{New, Held}
 
+-- what contracts see of a store: all clauses by number, live or dead, and the numbers of the live ones
+pub record StoreState : Type 0 where
+  pub clauses : List (List Elem)
+  pub live : List ℕ
+
 -- each number is below all that follow it
 abbrev pub IsAscending : List ℕ → Type 0
 IsAscending [] = Unit {0}
@@ -43,22 +48,20 @@ pub record IsAdded (new : List Elem) (before after : List (List Elem)) : Type 0 
   pub kept : (c : List Elem) → OneOf c before → OneOf c after ⊎ Within new c
 
 -- the clause is stored under the next number, live, and its live supersets are dead
-pub record IsNew (old : List (List Elem) × List ℕ) (clause : List Elem)
-    (new : List (List Elem) × List ℕ) (n : ℕ) : Type 0 where
+pub record IsNew (old : StoreState) (clause : List Elem) (new : StoreState) (n : ℕ) : Type 0 where
   -- the next number
-  pub next : n ≡ length old.0
+  pub next : n ≡ length old.clauses
   -- nothing stored is forgotten
-  pub stored : new.0 ≡ old.0 ++ clause ∷ []
-  pub added : IsAdded clause (picked old.0 old.1) (picked new.0 new.1)
+  pub stored : new.clauses ≡ old.clauses ++ clause ∷ []
+  pub added : IsAdded clause (picked old.clauses old.live) (picked new.clauses new.live)
   -- what is live is the new number, or was live
-  pub numbers : (m : ℕ) → OneOf m new.1 → (m ≡ n) ⊎ (OneOf m old.1 × (m < length old.0))
+  pub numbers : (m : ℕ) → OneOf m new.live → (m ≡ n) ⊎ (OneOf m old.live × (m < length old.clauses))
   -- no superset of the new clause is live
-  pub supersets : (c : List Elem) → OneOf c (picked new.0 new.1) → Within clause c → c ≡ clause
+  pub supersets : (c : List Elem) → OneOf c (picked new.clauses new.live) → Within clause c → c ≡ clause
   -- no live clause was a subset of it
-  pub not_held : Redundant (picked old.0 old.1) clause → ⊥
+  pub not_held : Redundant (picked old.clauses old.live) clause → ⊥
 
 -- what adding a clause comes to
-abbrev pub IsOutcome : List (List Elem) × List ℕ → List Elem → List (List Elem) × List ℕ → Added
-    → Type 0
+abbrev pub IsOutcome : StoreState → List Elem → StoreState → Added → Type 0
 IsOutcome old clause new (New n) = IsNew old clause new n
-IsOutcome old clause new (Held i) = IsHeld old.0 old.1 clause i × (new ≡ old)
+IsOutcome old clause new (Held i) = IsHeld old.clauses old.live clause i × (new ≡ old)

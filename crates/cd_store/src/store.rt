@@ -1,12 +1,12 @@
 //! The store of a context.
-ghost use Rattle.std.specs.Prelude.{◌≡◌, ◌<◌, ◌↔◌, ◌∷◌, ◌++◌, ◌⊎◌, ℕ, List, [], length, true, IfOk, IfSome, OnOk, OnErr, reverse};
+ghost use Rattle.std.specs.Prelude.{◌≡◌, ◌<◌, ◌↔◌, ◌∷◌, ◌++◌, ◌⊎◌, ◌^◌, ℕ, List, [], length, true, IfOk, IfSome, OnOk, OnErr};
 ghost use Rattle.cd_base.specs.Lists.{OneOf};
 ghost use Rattle.cd_clause.specs.declared.elem.Elem.{Elem};
 ghost use Rattle.cd_clause.specs.declared.elem.Elem.TheVariants.{Exist, Plain};
 ghost use Rattle.cd_store.specs.Filing.{AreFiled};
 ghost use Rattle.cd_store.specs.LookUps.{Gains, HasElem, HasExistential};
 ghost use Rattle.cd_store.specs.Sift.{IsSuperset, Leaves, Sifts};
-ghost use Rattle.cd_store.specs.Store.{IsStore, IsOutcome, ContainsNoEarlier};
+ghost use Rattle.cd_store.specs.Store.{IsStore, IsOutcome};
 
 use crate::filing::Filing;
 use crate::subsets::{find_subset, is_among};
@@ -27,7 +27,7 @@ pub enum Added {
     Held(usize),
 }
 
-/// The clauses of one context. Contracts see all of them by number, and the numbers of the live ones.
+/// The clauses of one context. Contracts see its `StoreState`.
 #[derive(Debug, Drop)]
 pub struct Store {
     clauses: Vec<Clause>,
@@ -36,14 +36,12 @@ pub struct Store {
 }
 
 impl Model for Store {
-    ghost use Rattle.std.specs.Prelude.{ℕ, List};
-    ghost use Rattle.cd_clause.specs.declared.elem.Elem.{Elem};
     ghost use Rattle.cd_store.specs.Filing.{AreFiled};
-    ghost use Rattle.cd_store.specs.Store.{IsStore};
+    ghost use Rattle.cd_store.specs.Store.{StoreState, IsStore};
 
-    ghost Value = { List (List Elem) × List ℕ };
+    ghost Value = { StoreState };
 
-    ghost view = { λ s. (s.clauses.items, s.live.items) };
+    ghost view = { λ s. record { clauses = s.clauses.items; live = s.live.items } };
 
     ghost invariant = { λ s. IsStore s.clauses.items s.live.items
         × AreFiled s.filing s.clauses.items };
@@ -52,7 +50,7 @@ impl Model for Store {
 impl Store {
     /// A store without clauses. Takes no memory and constant time.
     pub fn new(alloc: Global) -> Store
-        ensures { result ≡ ([], []) }
+        ensures { result ≡ record { clauses = []; live = [] } }
     {
         Store {
             clauses: Vec::new(alloc),
@@ -63,8 +61,8 @@ impl Store {
 
     /// All clauses, live or dead, by number. No clause contains one of a lower number. Constant time.
     pub fn clauses(&self) -> &[Clause]
-        ensures value { result.now ≡ self.now.0 }
-        ensures apart { ContainsNoEarlier (reverse self.now.0) }
+        ensures value { result.now ≡ self.now.clauses }
+        ensures store { IsStore self.now.clauses self.now.live }
     {
         &self.clauses
     }
@@ -72,15 +70,16 @@ impl Store {
     /// The numbers of the live clauses, ascending. Every clause that was ever added has a live subset, and no live clause contains another.
     /// Constant time.
     pub fn live(&self) -> &[usize]
-        ensures value { result.now ≡ self.now.1 }
-        ensures store { IsStore self.now.0 self.now.1 }
+        ensures value { result.now ≡ self.now.live }
+        ensures store { IsStore self.now.clauses self.now.live }
     {
         &self.live
     }
 
     /// Whether the number is that of a live clause. Logarithmic in the live ones.
     pub fn is_live(&self, number: usize) -> bool
-        ensures { (result ≡ true) ↔ OneOf number self.now.1 }
+        ensures value { (result ≡ true) ↔ OneOf number self.now.live }
+        ensures fits { length self.now.clauses < 2 ^ 64 }
     {
         is_among(&self.live, number)
     }
@@ -92,6 +91,7 @@ impl Store {
     pub fn add(&mut self, alloc: Global, clause: Clause) -> Result<Added, Memory>
         ensures ok { IfOk result (λ a. IsOutcome self.old clause self.new a) }
         ensures err { OnErr result (self.new ≡ self.old) }
+        ensures store { IsStore self.new.clauses self.new.live }
     {
         if let Some(i) = find_subset(&self.filing, &self.clauses, &self.live, &clause) {
             return Ok(Added::Held(i));
@@ -113,7 +113,7 @@ impl Store {
 
     /// Whether a stored clause, live or dead, has the atom: true wherever one has, and maybe where none has. Two look-ups.
     pub fn may_have(&self, atom: Atom) -> bool
-        ensures { (n : ℕ) → HasElem self.now.0 (Plain atom) n → result ≡ true }
+        ensures { (n : ℕ) → HasElem self.now.clauses (Plain atom) n → result ≡ true }
     {
         if !self.filing.ending_in_atom(atom).is_empty() {
             return true;
@@ -124,7 +124,7 @@ impl Store {
     /// Appends the number of each stored clause, live or dead, that has the atom, and maybe others. Two look-ups, and linear in what is
     /// appended.
     pub fn push_with_atom(&self, atom: Atom, found: &mut Vec<usize>) -> Result<(), Memory>
-        ensures { OnOk result (Gains (HasElem self.now.0 (Plain atom)) found.old.items
+        ensures { OnOk result (Gains (HasElem self.now.clauses (Plain atom)) found.old.items
             found.new.items) }
     {
         found.extend_from_slice(self.filing.ending_in_atom(atom))?;
@@ -140,7 +140,7 @@ impl Store {
         key: &Key,
         found: &mut Vec<usize>,
     ) -> Result<(), Memory>
-        ensures { OnOk result (Gains (HasElem self.now.0 (Exist role key.now)) found.old.items
+        ensures { OnOk result (Gains (HasElem self.now.clauses (Exist role key.now)) found.old.items
             found.new.items) }
     {
         found.extend_from_slice(self.filing.ending_in_existential(role, key))?;
@@ -151,7 +151,8 @@ impl Store {
     /// Appends the number of each stored clause, live or dead, that has an existential, and maybe others. One look-up, and linear in what
     /// is appended.
     pub fn push_with_existentials(&self, found: &mut Vec<usize>) -> Result<(), Memory>
-        ensures { OnOk result (Gains (HasExistential self.now.0) found.old.items found.new.items) }
+        ensures { OnOk result (Gains (HasExistential self.now.clauses) found.old.items
+            found.new.items) }
     {
         found.extend_from_slice(self.filing.with_existentials())?;
         Ok(())
@@ -161,7 +162,7 @@ impl Store {
     /// is a matter of cost alone. Linear in them.
     pub fn atom_numbers(&self, alloc: Global, at_most: usize) -> Result<Option<Vec<u64>>, Memory>
         ensures { IfOk result (λ some.
-            IfSome some (λ numbers. (a n : ℕ) → HasElem self.now.0 (Plain a) n
+            IfSome some (λ numbers. (a n : ℕ) → HasElem self.now.clauses (Plain a) n
             → OneOf a numbers.items)) }
     {
         if self.filing.count() > at_most {

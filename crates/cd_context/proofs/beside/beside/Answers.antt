@@ -11,7 +11,7 @@ use Rattle.cd_context.proofs.beside.beside.Goals as goal
 pub push_beside-requires : goal.push_beside-requires
 push_beside-requires c = λ e m.
     let lent = c.clauses.result.now in
-    let read : c.index-clauses-premise.result ≡ get_or c.args.store.now.0 c.args.premise []
+    let read : c.index-clauses-premise.result ≡ get_or c.args.store.now.clauses c.args.premise []
     = get_or_read lent c.args.premise c.index-clauses-premise.result (subst (λ (l : List (List Elem)). c.args.premise < length l) (sym c.clauses.ensures.value) c.requires) c.index-clauses-premise.is []
     ∙ ap (λ (l : List (List Elem)). get_or l c.args.premise []) c.clauses.ensures.value in
     (c.args.premise, (c.requires, subst (λ (d : List Elem). OneOf e d) read m))
@@ -22,10 +22,10 @@ returns-clause-live c = c.in_ok-others.ensures.live
 pub returns-clause-enough : goal.returns-clause-enough
 returns-clause-enough c =
     let lent = c.clauses.result.now in
-    let read : c.index-clauses-premise.result ≡ get_or c.args.store.now.0 c.args.premise []
+    let read : c.index-clauses-premise.result ≡ get_or c.args.store.now.clauses c.args.premise []
     = get_or_read lent c.args.premise c.index-clauses-premise.result (subst (λ (l : List (List Elem)). c.args.premise < length l) (sym c.clauses.ensures.value) c.requires) c.index-clauses-premise.is []
     ∙ ap (λ (l : List (List Elem)). get_or l c.args.premise []) c.clauses.ensures.value in
-    enough c.args.index.now.normal c.args.store.now.0 c.args.premise c.args.store.now.1 (numbers c.args.waiting.now) c.as_slice.result.now c.in_ok-others.others.items c.live-live.ensures.store.in_range c.requires
+    enough c.args.index.now.normal c.args.store.now.clauses c.args.premise c.args.store.now.live (numbers c.args.waiting.now) c.as_slice.result.now c.in_ok-others.others.items c.clauses.ensures.store.in_range c.requires
     (λ m q. subst (λ (l : List ℕ). OneOf m l) (sym c.as_slice.ensures.value)
     ((c.put_in_order.ensures m).1 (c.in_ok-push_beside.ensures m (inr (q.0, subst (λ (d : List Elem). Eligible c.args.index.now.normal q.0 d) (sym read) q.1, q.2)))))
     (λ m h l w. elim (cases_eq m c.args.premise) [

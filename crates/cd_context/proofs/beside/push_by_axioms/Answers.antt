@@ -30,9 +30,9 @@ axioms-preserved c =
     let lt : k < length c.items-all.result.now = subst (λ (l : List Conj). k < length l) (sym same) (c.requires.numbers k (member_get c.args.axioms.now c.axioms.i 0 c.axioms-test.true)) in
     let is : left_of n.n1 k ≡ c.index-all-axioms.result.left
     = ap (λ (l : List Conj). left_of l k) (sym same) ∙ left_read c.items-all.result.now k c.index-all-axioms.result lt c.index-all-axioms.is in
-    gain_goes (OfNumber n c.args.store.now.0 c.args.atom c.args.axioms.now) c.axioms.i c.args.found.now.items c.axioms.found.items c.push_by_left.new.found.items c.axioms.invariant
-    (subst (λ (l : List ℕ). Gains (IsBesideLeft c.args.store.now.0 c.args.atom l) c.axioms.found.items c.push_by_left.new.found.items) (c.items.ensures ∙ sym is) c.in_ok-push_by_left.ensures)
+    gain_goes (OfNumber n c.args.store.now.clauses c.args.atom c.args.axioms.now) c.axioms.i c.args.found.now.items c.axioms.found.items c.push_by_left.new.found.items c.axioms.invariant
+    (subst (λ (l : List ℕ). Gains (IsBesideLeft c.args.store.now.clauses c.args.atom l) c.axioms.found.items c.push_by_left.new.found.items) (c.items.ensures ∙ sym is) c.in_ok-push_by_left.ensures)
 
 pub returns : goal.returns
-returns c = gain_ends (OfNumber c.args.index.now.normal c.args.store.now.0 c.args.atom c.args.axioms.now) c.axioms.i (length c.args.axioms.now) c.args.found.now.items c.axioms.found.items
-    (IsBesideByOne c.args.index.now.normal c.args.store.now.0 c.args.atom c.args.axioms.now) c.axioms.invariant (omega (arith, c.axioms-test.false)) (by_number c.args.index.now.normal c.args.store.now.0 c.args.atom c.args.axioms.now)
+returns c = gain_ends (OfNumber c.args.index.now.normal c.args.store.now.clauses c.args.atom c.args.axioms.now) c.axioms.i (length c.args.axioms.now) c.args.found.now.items c.axioms.found.items
+    (IsBesideByOne c.args.index.now.normal c.args.store.now.clauses c.args.atom c.args.axioms.now) c.axioms.invariant (omega (arith, c.axioms-test.false)) (by_number c.args.index.now.normal c.args.store.now.clauses c.args.atom c.args.axioms.now)

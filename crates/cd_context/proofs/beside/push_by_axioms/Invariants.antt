@@ -3,4 +3,4 @@ use Rattle.cd_context.proofs.Besides.{OfNumber}
 use Rattle.cd_context.proofs.beside.push_by_axioms.Given as goal
 
 abbrev pub invariant-axioms : goal.invariant-axioms
-invariant-axioms l = HasGained (OfNumber l.index.normal l.store.0 l.atom l.fn.axioms) l.i l.fn.found.items l.found.items
+invariant-axioms l = HasGained (OfNumber l.index.normal l.store.clauses l.atom l.fn.axioms) l.i l.fn.found.items l.found.items

@@ -5,5 +5,5 @@ use Rattle.cd_context.proofs.beside.push_by_con.Goals as goal
 
 pub returns : goal.returns
 returns c =
-    gain_less (IsBesideByCon c.args.index.now.normal c.args.store.now.0 c.args.atom) (IsBesideByOne c.args.index.now.normal c.args.store.now.0 c.args.atom c.with_left-all.result.now) c.args.found.now.items c.push_by_axioms.new.found.items
-    (by_all c.args.index.now.normal c.args.store.now.0 c.args.atom c.with_left-all.result.now c.with_left-all.ensures.every) c.in_ok-push_by_axioms.ensures
+    gain_less (IsBesideByCon c.args.index.now.normal c.args.store.now.clauses c.args.atom) (IsBesideByOne c.args.index.now.normal c.args.store.now.clauses c.args.atom c.with_left-all.result.now) c.args.found.now.items c.push_by_axioms.new.found.items
+    (by_all c.args.index.now.normal c.args.store.now.clauses c.args.atom c.with_left-all.result.now c.with_left-all.ensures.every) c.in_ok-push_by_axioms.ensures

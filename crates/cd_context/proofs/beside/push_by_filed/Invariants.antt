@@ -3,4 +3,4 @@ use Rattle.cd_context.proofs.Besides.{OfAtomAt}
 use Rattle.cd_context.proofs.beside.push_by_filed.Given as goal
 
 abbrev pub invariant-atoms : goal.invariant-atoms
-invariant-atoms l = HasGained (OfAtomAt l.index.normal l.store.0 l.index.filed l.fn.atoms l.atom) l.i l.fn.found.items l.found.items
+invariant-atoms l = HasGained (OfAtomAt l.index.normal l.store.clauses l.index.filed l.fn.atoms l.atom) l.i l.fn.found.items l.found.items

@@ -6,11 +6,11 @@ use Rattle.cd_context.proofs.beside.push_by_number.Goals as goal
 
 pub returns-in_default : goal.returns-in_default
 returns-in_default c =
-    gain_none (IsBesideByFiled c.args.index.now.normal c.args.index.now.filed c.args.store.now.0 c.args.atom c.args.number) c.args.found.now.items (λ m q. c.in_default.ensures q.0)
+    gain_none (IsBesideByFiled c.args.index.now.normal c.args.index.now.filed c.args.store.now.clauses c.args.atom c.args.number) c.args.found.now.items (λ m q. c.in_default.ensures q.0)
 
 pub returns : goal.returns
 returns c =
     let n = c.args.index.now.normal in
-    gain_less (IsBesideByFiled n c.args.index.now.filed c.args.store.now.0 c.args.atom c.args.number) (IsBesideByOne n c.args.store.now.0 c.args.atom c.filed.result.now) c.args.found.now.items c.push_by_axioms.new.found.items
-    (λ m q. subst (λ (l : List ℕ). IsBesideByOne n c.args.store.now.0 c.args.atom l m) (sym (c.filed.ensures.list ∙ ap (λ (a : ℕ). filed_at c.args.index.now.filed n.atoms a) c.in-Some.ensures.0)) q.1)
+    gain_less (IsBesideByFiled n c.args.index.now.filed c.args.store.now.clauses c.args.atom c.args.number) (IsBesideByOne n c.args.store.now.clauses c.args.atom c.filed.result.now) c.args.found.now.items c.push_by_axioms.new.found.items
+    (λ m q. subst (λ (l : List ℕ). IsBesideByOne n c.args.store.now.clauses c.args.atom l m) (sym (c.filed.ensures.list ∙ ap (λ (a : ℕ). filed_at c.args.index.now.filed n.atoms a) c.in-Some.ensures.0)) q.1)
     c.in_ok-push_by_axioms.ensures

@@ -10,7 +10,7 @@ use Rattle.cd_context.proofs.beside.taken_up.Goals as goal
 
 pub candidates-preserved : goal.candidates-preserved
 candidates-preserved c =
-    let live = c.args.store.now.1 in
+    let live = c.args.store.now.live in
     let waiting = numbers c.args.waiting.now in
     let Q : ℕ → ℕ → Type 0 = OfTakenUp c.args.candidates.now live waiting c.args.premise in
     let i = c.candidates.i in
@@ -34,5 +34,5 @@ candidates-preserved c =
 
 pub returns-clause-every : goal.returns-clause-every
 returns-clause-every c = λ k m l w d.
-    let q = all_taken_up c.args.candidates.now c.args.store.now.1 (numbers c.args.waiting.now) c.args.premise k (m, l, w, d) in
+    let q = all_taken_up c.args.candidates.now c.args.store.now.live (numbers c.args.waiting.now) c.args.premise k (m, l, w, d) in
     c.candidates.invariant.every k (inr (q.0, omega (arith, q.1, c.candidates-test.false), q.2))

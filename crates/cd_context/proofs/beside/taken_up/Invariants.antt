@@ -7,6 +7,6 @@ use Rattle.cd_context.proofs.beside.taken_up.Given as goal
 
 abbrev pub invariant-candidates : goal.invariant-candidates
 invariant-candidates l = record {
-  live : (k : ℕ) → OneOf k l.others.items → OneOf k l.store.1;
-  every : HasGained (OfTakenUp l.fn.candidates l.store.1 (numbers l.waiting) l.premise) l.i [] l.others.items;
+  live : (k : ℕ) → OneOf k l.others.items → OneOf k l.store.live;
+  every : HasGained (OfTakenUp l.fn.candidates l.store.live (numbers l.waiting) l.premise) l.i [] l.others.items;
 }

@@ -2,9 +2,9 @@ use Rattle.std.proofs.Common.{◌≡◌, length, sym, subst, arith}
 use Rattle.std.specs.Vec.Iter.{into_iter_items, into_iter_len}
 use Rattle.std.proofs.lemmas.Grind.{common_steps}
 use Rattle.std.proofs.lemmas.List.{nil_from_length}
-use Rattle.cd_context.specs.TakeUp.{Told, ClosedUpTo}
+use Rattle.cd_context.specs.TakeUp.{Told, ClosedUpTo, Continues}
 use Rattle.cd_context.specs.Waits.{numbers}
-use Rattle.cd_context.proofs.Adds.{IsAdding, Continues, continues_refl, add_held, add_new, add_turn, add_continues}
+use Rattle.cd_context.proofs.Adds.{IsAdding, continues_refl, add_held, add_new, add_turn, add_continues}
 use Rattle.cd_context.proofs.closing.add_all.Goals as goal
 
 pub conclusions-init : goal.conclusions-init
@@ -18,10 +18,8 @@ conclusions-init c =
           record { closed = c.requires.closed; working = c.requires.working; concluded = c.requires.concluded; takes_up = omega arith; stays = λ k m w. (m, w); continues = continues_refl c.args.store.now };
     }
 
-pub returns-in_err-add-clause-survivors : goal.returns-in_err-add-clause-survivors
-returns-in_err-add-clause-survivors c =
-    let h : Continues c.args.store.now c.add.new.self = subst (λ q. Continues c.args.store.now q) (sym c.in_err-add.ensures.err) c.conclusions.invariant.adding.continues in
-    h.survivors
+pub returns-in_err-add-clause-continues : goal.returns-in_err-add-clause-continues
+returns-in_err-add-clause-continues c = subst (λ q. Continues c.args.store.now q) (sym c.in_err-add.ensures.err) c.conclusions.invariant.adding.continues
 
 pub conclusions-preserved-in-Held : goal.conclusions-preserved-in-Held
 conclusions-preserved-in-Held c = record {
@@ -29,7 +27,7 @@ conclusions-preserved-in-Held c = record {
   ends = tt;
   adding =
       add_held c.args.index.now.normal c.args.key.now (record { backs = c.args.backs.now; deads = c.args.deads.now }) c.args.store.now (numbers c.args.waiting.now) c.conclusions.store (numbers c.conclusions.waiting) (into_iter_items c.conclusions.conclusion-iterator) c.in-Some.conclusion (into_iter_items c.next.new.self)
-      c.conclusions.invariant.adding c.in-Some.ensures.steps.0 c.add.new.self c.in_ok-add.field-0 c.in_ok-add.ensures.ok c.in-Held.field-0 c.in-Held.is;
+      c.conclusions.invariant.adding c.in-Some.ensures.steps.0 c.add.new.self c.in_ok-add.field-0 c.in_ok-add.ensures.ok c.in_ok-add.ensures.store c.in-Held.field-0 c.in-Held.is;
 }
 
 pub conclusions-preserved : goal.conclusions-preserved
@@ -38,24 +36,22 @@ conclusions-preserved c = record {
   ends = tt;
   adding =
       add_new c.args.index.now.normal c.args.key.now (record { backs = c.args.backs.now; deads = c.args.deads.now }) c.args.store.now (numbers c.args.waiting.now) c.conclusions.store (numbers c.conclusions.waiting) (into_iter_items c.conclusions.conclusion-iterator) c.in-Some.conclusion (into_iter_items c.next.new.self)
-      c.conclusions.invariant.adding c.in-Some.ensures.steps.0 c.add.new.self c.in_ok-add.field-0 c.in_ok-add.ensures.ok c.in-New.number c.in-New.is (numbers c.put.new.self) c.in_ok-put-in-New.ensures.ok;
+      c.conclusions.invariant.adding c.in-Some.ensures.steps.0 c.add.new.self c.in_ok-add.field-0 c.in_ok-add.ensures.ok c.in_ok-add.ensures.store c.in-New.number c.in-New.is (numbers c.put.new.self) c.in_ok-put-in-New.ensures.ok;
 }
 
 pub returns-in_err-put-in-New-clause-in_turn : goal.returns-in_err-put-in-New-clause-in_turn
 returns-in_err-put-in-New-clause-in_turn c =
     add_turn c.args.index.now.normal c.args.key.now (record { backs = c.args.backs.now; deads = c.args.deads.now }) c.args.store.now (numbers c.args.waiting.now) c.conclusions.store (numbers c.conclusions.waiting) (into_iter_items c.conclusions.conclusion-iterator) c.in-Some.conclusion (into_iter_items c.next.new.self)
-    c.conclusions.invariant.adding c.in-Some.ensures.steps.0 c.add.new.self c.in_ok-add.field-0 c.in_ok-add.ensures.ok c.in-New.number c.in-New.is
+    c.conclusions.invariant.adding c.in-Some.ensures.steps.0 c.add.new.self c.in_ok-add.field-0 c.in_ok-add.ensures.ok c.in_ok-add.ensures.store c.in-New.number c.in-New.is
 
-pub returns-in_err-put-in-New-clause-survivors : goal.returns-in_err-put-in-New-clause-survivors
-returns-in_err-put-in-New-clause-survivors c =
-    let h : Continues c.args.store.now c.add.new.self =
+pub returns-in_err-put-in-New-clause-continues : goal.returns-in_err-put-in-New-clause-continues
+returns-in_err-put-in-New-clause-continues c =
     add_continues c.args.index.now.normal c.args.key.now (record { backs = c.args.backs.now; deads = c.args.deads.now }) c.args.store.now (numbers c.args.waiting.now) c.conclusions.store (numbers c.conclusions.waiting) (into_iter_items c.conclusions.conclusion-iterator) c.in-Some.conclusion (into_iter_items c.next.new.self)
-    c.conclusions.invariant.adding c.in-Some.ensures.steps.0 c.add.new.self c.in_ok-add.field-0 c.in_ok-add.ensures.ok c.in-New.number c.in-New.is in
-    h.survivors
+    c.conclusions.invariant.adding c.in-Some.ensures.steps.0 c.add.new.self c.in_ok-add.field-0 c.in_ok-add.ensures.ok c.in_ok-add.ensures.store c.in-New.number c.in-New.is
 
 pub returns-clause-closed : goal.returns-clause-closed
 returns-clause-closed c =
     let told : Told = record { backs = c.args.backs.now; deads = c.args.deads.now } in
     let z : into_iter_len c.conclusions.conclusion-iterator ≡ 0 = c.in-None.ensures.steps.0 in
     let l : length (into_iter_items c.conclusions.conclusion-iterator) ≡ 0 = grind (arith, common_steps) in
-    subst (λ q. ClosedUpTo c.args.index.now.normal c.args.key.now told c.conclusions.store.0 c.conclusions.store.1 (numbers c.conclusions.waiting) q) (nil_from_length (into_iter_items c.conclusions.conclusion-iterator) l) c.conclusions.invariant.adding.closed
+    subst (λ q. ClosedUpTo c.args.index.now.normal c.args.key.now told c.conclusions.store.clauses c.conclusions.store.live (numbers c.conclusions.waiting) q) (nil_from_length (into_iter_items c.conclusions.conclusion-iterator) l) c.conclusions.invariant.adding.closed

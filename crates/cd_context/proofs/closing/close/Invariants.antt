@@ -1,15 +1,14 @@
 use Rattle.std.proofs.Common.{◌-◌, ◌^◌, [], length}
-use Rattle.cd_context.specs.TakeUp.{ClosedUpTo, IsWorking}
+use Rattle.cd_context.specs.TakeUp.{ClosedUpTo, IsWorking, Continues}
 use Rattle.cd_context.specs.Waits.{numbers}
-use Rattle.cd_context.proofs.Adds.{Continues}
 use Rattle.cd_context.proofs.closing.close.Given as goal
 
 abbrev pub invariant-turns : goal.invariant-turns
 invariant-turns l = record {
-  closed : ClosedUpTo l.index.normal l.key (record { backs = l.backs; deads = l.deads }) l.store.0 l.store.1 (numbers l.waiting) [];
-  working : IsWorking l.index.normal l.key (record { backs = l.backs; deads = l.deads }) l.store.0 (numbers l.waiting);
+  closed : ClosedUpTo l.index.normal l.key (record { backs = l.backs; deads = l.deads }) l.store.clauses l.store.live (numbers l.waiting) [];
+  working : IsWorking l.index.normal l.key (record { backs = l.backs; deads = l.deads }) l.store.clauses (numbers l.waiting);
   continues : Continues l.initial.store l.store;
 }
 
 abbrev pub decreases-turns : goal.decreases-turns
-decreases-turns l = 2 ^ 64 - (length l.store.0 - length l.waiting)
+decreases-turns l = 2 ^ 64 - (length l.store.clauses - length l.waiting)

@@ -9,34 +9,34 @@ use Rattle.cd_context.proofs.Appended.{appended_only, appended_every}
 use Rattle.cd_context.proofs.closing.conclude.Goals as goal
 
 pub beside-requires : goal.beside-requires
-beside-requires c = c.live-live.ensures.store.in_range c.args.number c.requires
+beside-requires c = c.clauses-clauses.ensures.store.in_range c.args.number c.requires
 
 pub on_clause-requires-clause-live : goal.on_clause-requires-clause-live
 on_clause-requires-clause-live c = λ k m.
-    subst (λ (cs : List (List Elem)). k < length cs) (sym c.clauses.ensures.value)
-    (c.live-live.ensures.store.in_range k (c.in_ok-others.ensures.live k (subst (λ (l : List ℕ). OneOf k l) c.as_slice.ensures.value m)))
+    subst (λ (cs : List (List Elem)). k < length cs) (sym c.clauses-clauses.ensures.value)
+    (c.clauses-clauses.ensures.store.in_range k (c.in_ok-others.ensures.live k (subst (λ (l : List ℕ). OneOf k l) c.as_slice.ensures.value m)))
 
 pub on_clause-requires-clause-premise : goal.on_clause-requires-clause-premise
-on_clause-requires-clause-premise c = subst (λ (cs : List (List Elem)). c.args.number < length cs) (sym c.clauses.ensures.value) (c.live-live.ensures.store.in_range c.args.number c.requires)
+on_clause-requires-clause-premise c = subst (λ (cs : List (List Elem)). c.args.number < length cs) (sym c.clauses-clauses.ensures.value) (c.clauses-clauses.ensures.store.in_range c.args.number c.requires)
 
 pub returns-clause-only : goal.returns-clause-only
 returns-clause-only c = λ d m.
     let told : Told = record { backs = c.args.backs.now; deads = c.args.deads.now } in
-    let lent : FromClause c.args.index.now.normal c.args.key.now c.clauses.result.now c.as_slice.result.now c.args.number c.args.backs.now c.args.deads.now d
+    let lent : FromClause c.args.index.now.normal c.args.key.now c.clauses-clauses.result.now c.as_slice.result.now c.args.number c.args.backs.now c.args.deads.now d
     = appended_only _ _ _ _ c.new-conclusions.ensures.items c.on_clause.ensures d m in
-    let q : FromClause c.args.index.now.normal c.args.key.now c.args.store.now.0 c.as_slice.result.now c.args.number c.args.backs.now c.args.deads.now d
-    = subst (λ (cs : List (List Elem)). FromClause c.args.index.now.normal c.args.key.now cs c.as_slice.result.now c.args.number c.args.backs.now c.args.deads.now d) c.clauses.ensures.value lent in
-    concluded_of c.args.index.now.normal c.args.key.now told c.args.store.now.0 (c.args.number ∷ c.as_slice.result.now) d
+    let q : FromClause c.args.index.now.normal c.args.key.now c.args.store.now.clauses c.as_slice.result.now c.args.number c.args.backs.now c.args.deads.now d
+    = subst (λ (cs : List (List Elem)). FromClause c.args.index.now.normal c.args.key.now cs c.as_slice.result.now c.args.number c.args.backs.now c.args.deads.now d) c.clauses-clauses.ensures.value lent in
+    concluded_of c.args.index.now.normal c.args.key.now told c.args.store.now.clauses (c.args.number ∷ c.as_slice.result.now) d
     (λ k h. elim h [
-      | inl e ↦ subst (λ (j : ℕ). j < length c.args.store.now.0) (sym e) (c.live-live.ensures.store.in_range c.args.number c.requires)
-      | inr i ↦ c.live-live.ensures.store.in_range k (c.in_ok-others.ensures.live k (subst (λ (l : List ℕ). OneOf k l) c.as_slice.ensures.value i))
+      | inl e ↦ subst (λ (j : ℕ). j < length c.args.store.now.clauses) (sym e) (c.clauses-clauses.ensures.store.in_range c.args.number c.requires)
+      | inr i ↦ c.clauses-clauses.ensures.store.in_range k (c.in_ok-others.ensures.live k (subst (λ (l : List ℕ). OneOf k l) c.as_slice.ensures.value i))
     ]) q.0
 
 pub returns-clause-every : goal.returns-clause-every
 returns-clause-every c = λ taken up d q.
     let n = c.args.index.now.normal in
-    let every : (e : List Elem) → FromClause n c.args.key.now c.clauses.result.now c.as_slice.result.now c.args.number c.args.backs.now c.args.deads.now e → Redundant c.on_clause.new.out.items e
+    let every : (e : List Elem) → FromClause n c.args.key.now c.clauses-clauses.result.now c.as_slice.result.now c.args.number c.args.backs.now c.args.deads.now e → Redundant c.on_clause.new.out.items e
     = appended_every _ _ _ _ c.new-conclusions.ensures.items c.in_ok-on_clause.ensures refl in
-    every d (subst (λ (cs : List (List Elem)). FromClause n c.args.key.now cs c.as_slice.result.now c.args.number c.args.backs.now c.args.deads.now d) (sym c.clauses.ensures.value)
-    (subst (λ (l : List ℕ). FromClause n c.args.key.now c.args.store.now.0 l c.args.number c.args.backs.now c.args.deads.now d) (sym c.as_slice.ensures.value)
+    every d (subst (λ (cs : List (List Elem)). FromClause n c.args.key.now cs c.as_slice.result.now c.args.number c.args.backs.now c.args.deads.now d) (sym c.clauses-clauses.ensures.value)
+    (subst (λ (l : List ℕ). FromClause n c.args.key.now c.args.store.now.clauses l c.args.number c.args.backs.now c.args.deads.now d) (sym c.as_slice.ensures.value)
     (c.in_ok-others.ensures.enough taken up c.args.key.now c.args.backs.now c.args.deads.now d q)))

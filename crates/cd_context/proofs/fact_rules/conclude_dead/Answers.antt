@@ -11,12 +11,12 @@ use Rattle.cd_context.proofs.fact_rules.conclude_dead.Goals as goal
 pub on_dead-done-requires : goal.on_dead-done-requires
 on_dead-done-requires c = record {
   live = λ k m. subst (λ (cs : List (List Elem)). k < length cs) (sym c.clauses.ensures.value)
-      (c.live-live.ensures.store.in_range k (c.in_ok-numbers.ensures.live k (subst (λ (l : List ℕ). OneOf k l) c.as_slice.ensures.value m)));
+      (c.clauses.ensures.store.in_range k (c.in_ok-numbers.ensures.live k (subst (λ (l : List ℕ). OneOf k l) c.as_slice.ensures.value m)));
 }
 
 pub returns : goal.returns
 returns c = λ key.
     let n = c.args.index.now.normal in
-    let a : Appends Among (FromDead n key c.args.store.now.0 c.in_ok-numbers.numbers.items c.args.dead.now) (IsOk c.on_dead-done.result) c.args.out.now.items c.on_dead-done.new.out.items
+    let a : Appends Among (FromDead n key c.args.store.now.clauses c.in_ok-numbers.numbers.items c.args.dead.now) (IsOk c.on_dead-done.result) c.args.out.now.items c.on_dead-done.new.out.items
     = rw (← c.clauses.ensures.value, ← c.as_slice.ensures.value) (c.on_dead-done.ensures key) in
-    appends_dead n key c.args.store.now.0 c.args.store.now.1 c.in_ok-numbers.numbers.items c.live-live.ensures.store.in_range c.in_ok-numbers.ensures.live c.args.dead.now c.in_ok-numbers.ensures.every _ c.args.out.now.items c.on_dead-done.new.out.items a
+    appends_dead n key c.args.store.now.clauses c.args.store.now.live c.in_ok-numbers.numbers.items c.clauses.ensures.store.in_range c.in_ok-numbers.ensures.live c.args.dead.now c.in_ok-numbers.ensures.every _ c.args.out.now.items c.on_dead-done.new.out.items a

@@ -4,4 +4,4 @@ use Rattle.cd_context.proofs.FactRules.{OfLive}
 use Rattle.cd_context.proofs.fact_rules.live_among.Given as goal
 
 abbrev pub invariant-candidates : goal.invariant-candidates
-invariant-candidates l = HasGathered (OfLive l.fn.candidates l.store.1) l.i [] l.numbers.items
+invariant-candidates l = HasGathered (OfLive l.fn.candidates l.store.live) l.i [] l.numbers.items

@@ -19,6 +19,6 @@ returns c earlier backs deads =
     let old = c.args.out.now.items in
     let new = c.tell_all.new.out.items in
     let a = subst (λ (l : List (List Elem)). Appends OneOf (OfOne (ToldByOne normal key c.from_ref.result.now l) c.live.result.now) (IsOk c.tell_all.result) old new) c.clauses.ensures.value c.tell_all.ensures in
-    let b = subst (λ (l : List ℕ). Appends OneOf (OfOne (ToldByOne normal key c.from_ref.result.now c.args.store.now.0) l) (IsOk c.tell_all.result) old new) c.live.ensures.value a in
-    sends_link normal key c.args.store.now.0 c.args.store.now.1 backs deads earlier link (IsOk c.tell_all.result) old new
-    (subst (λ (l : List LinkFact). Appends OneOf (OfOne (ToldByOne normal key l c.args.store.now.0) c.args.store.now.1) (IsOk c.tell_all.result) old new) c.from_ref.ensures.value b)
+    let b = subst (λ (l : List ℕ). Appends OneOf (OfOne (ToldByOne normal key c.from_ref.result.now c.args.store.now.clauses) l) (IsOk c.tell_all.result) old new) c.live.ensures.value a in
+    sends_link normal key c.args.store.now.clauses c.args.store.now.live backs deads earlier link (IsOk c.tell_all.result) old new
+    (subst (λ (l : List LinkFact). Appends OneOf (OfOne (ToldByOne normal key l c.args.store.now.clauses) c.args.store.now.live) (IsOk c.tell_all.result) old new) c.from_ref.ensures.value b)

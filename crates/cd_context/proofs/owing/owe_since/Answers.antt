@@ -18,6 +18,6 @@ returns c backs deads =
     let key = c.args.key.now in
     let links = c.args.links.now in
     let found = c.since.result.now in
-    sends_since normal key c.args.store.now.0 c.args.store.now.1 backs deads links c.args.stored found (IsOk c.owe_all.result) c.args.out.now.items c.owe_all.new.out.items
+    sends_since normal key c.args.store.now.clauses c.args.store.now.live backs deads links c.args.stored found (IsOk c.owe_all.result) c.args.out.now.items c.owe_all.new.out.items
     (subst (λ (l : List ℕ). AreFrom c.args.stored l found) c.live.ensures.value c.since.ensures)
     (subst (λ (l : List (List Elem)). Appends OneOf (OfOne (OwedByOne normal key links l) found) (IsOk c.owe_all.result) c.args.out.now.items c.owe_all.new.out.items) c.clauses.ensures.value c.owe_all.ensures)

@@ -1,4 +1,6 @@
-use Rattle.std.proofs.Common.{[], refl, ap, ◌∙◌}
+use Rattle.std.proofs.Common.{rules, [], refl, ap, sym, ◌∙◌, subst}
+use Rattle.cd_store.specs.Store.{StoreState, IsStore}
+use Rattle.cd_store.proofs.Picks.{store_empty}
 use Rattle.cd_context.specs.FactLists.{ByKind}
 use Rattle.cd_context.proofs.Appended.{appended_only, appended_every}
 use Rattle.cd_context.proofs.Sent.{sends_first}
@@ -16,12 +18,18 @@ pub close_with-requires-clause-concluded : goal.close_with-requires-clause-concl
 close_with-requires-clause-concluded c = λ d m.
     concluded_at_first c.args.index.now.normal c.args.key _ c.backs-backs.result.now c.deads-deads.result.now d (appended_only _ _ _ _ c.new-conclusions.ensures.items c.in_ok-on_key.ensures d m)
 
+pub returns-clause-context : goal.returns-clause-context
+returns-clause-context c =
+    let store : IsStore c.close_with.new.store.clauses c.close_with.new.store.live
+    = c.in_ok-close_with.ensures.continues.store (subst (λ (s : StoreState). IsStore s.clauses s.live) (sym c.new-store.ensures) store_empty) in
+    search rules
+
 pub returns-clause-closed : goal.returns-clause-closed
 returns-clause-closed c =
-    none_waits c.args.index.now.normal c.args.key (record { backs = c.new-facts.result.backs; deads = c.new-facts.result.deads }) c.close_with.new.store.0 c.close_with.new.store.1
-    (closed_at c.args.index.now.normal c.args.key c.backs-backs.result.now c.new-facts.result.backs c.deads-deads.result.now c.new-facts.result.deads c.close_with.new.store.0 c.close_with.new.store.1 [] [] c.backs-backs.ensures c.deads-deads.ensures c.in_ok-close_with.ensures.closed)
+    none_waits c.args.index.now.normal c.args.key (record { backs = c.new-facts.result.backs; deads = c.new-facts.result.deads }) c.close_with.new.store.clauses c.close_with.new.store.live
+    (closed_at c.args.index.now.normal c.args.key c.backs-backs.result.now c.new-facts.result.backs c.deads-deads.result.now c.new-facts.result.deads c.close_with.new.store.clauses c.close_with.new.store.live [] [] c.backs-backs.ensures c.deads-deads.ensures c.in_ok-close_with.ensures.closed)
 
 pub returns-clause-sends : goal.returns-clause-sends
 returns-clause-sends c =
-    sends_first c.args.index.now.normal c.args.key c.close_with.new.store.0 c.close_with.new.store.1 c.links-links.result.now c.new-facts.result.links c.new-facts.result.backs c.new-facts.result.deads c.args.out.now.items c.send_since.new.out.items
+    sends_first c.args.index.now.normal c.args.key c.close_with.new.store.clauses c.close_with.new.store.live c.links-links.result.now c.new-facts.result.links c.new-facts.result.backs c.new-facts.result.deads c.args.out.now.items c.send_since.new.out.items
     c.links-links.ensures (c.in_ok-send_since.ensures.ok c.new-facts.result.backs c.new-facts.result.deads)

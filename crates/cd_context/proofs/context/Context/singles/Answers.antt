@@ -10,5 +10,5 @@ use Rattle.cd_context.proofs.context.Context.singles.Goals as goal
 pub returns-clause-exact : goal.returns-clause-exact
 returns-clause-exact c =
     subst (λ (s : State). IfOk c.singles.result (λ atoms. (b : ℕ) → OneOf b atoms.items ↔ IsSingle (live_of s) b)) c.self.view_is
-    (subst (λ (l : List ℕ). IfOk c.singles.result (λ atoms. (b : ℕ) → OneOf b atoms.items ↔ IsSingle (picked c.self.inside.store.0 l) b)) c.live-live.ensures.value
+    (subst (λ (l : List ℕ). IfOk c.singles.result (λ atoms. (b : ℕ) → OneOf b atoms.items ↔ IsSingle (picked c.self.inside.store.clauses l) b)) c.live-live.ensures.value
     (subst (λ (cs : List (List Elem)). IfOk c.singles.result (λ atoms. (b : ℕ) → OneOf b atoms.items ↔ IsSingle (picked cs c.live-live.result.now) b)) c.clauses-clauses.ensures.value c.singles.ensures.exact))

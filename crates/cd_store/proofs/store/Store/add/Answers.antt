@@ -48,5 +48,15 @@ returns-clause-ok c =
     let b : Redundant (picked cs ns) c.args.clause → ⊥ = rw (← c.deref.ensures.value, ← c.deref-2.ensures.value) c.in_default.ensures in
     let n : c.len-number.result ≡ length cs = c.len-number.ensures ∙ sym c.deref.ensures.len ∙ ap (λ q. length q) c.deref.ensures.value in
     let e : c.push_reserved.new.self.items ≡ cs ++ c.args.clause ∷ [] = c.push_reserved.ensures.items ∙ ap (λ q. q ++ c.args.clause ∷ []) c.in_ok-reserve.ensures.items in
-    subst (λ v. IsNew v c.args.clause (c.push_reserved.new.self.items, c.replace.new.live.items) c.len-number.result) c.self.view_is
+    subst (λ v. IsNew v c.args.clause (record { clauses = c.push_reserved.new.self.items; live = c.replace.new.live.items }) c.len-number.result) c.self.view_is
     (is_new cs c.push_reserved.new.self.items ns after c.replace.new.live.items c.args.clause c.len-number.result c.self.invariant.0 a b e c.in_ok-replace.ensures.ok.2 n)
+
+pub returns-clause-store : goal.returns-clause-store
+returns-clause-store c =
+    let cs = c.self.inside.clauses.items in let ns = c.self.inside.live.items in
+    let after : List ℕ = c.in_ok-replace.ensures.ok.0 in
+    let a : Sifts cs c.args.clause ns after = subst (λ q. Sifts q c.args.clause ns after) (c.deref-3.ensures.value ∙ c.in_ok-reserve.ensures.items) c.in_ok-replace.ensures.ok.1 in
+    let b : Redundant (picked cs ns) c.args.clause → ⊥ = rw (← c.deref.ensures.value, ← c.deref-2.ensures.value) c.in_default.ensures in
+    let n : c.len-number.result ≡ length cs = c.len-number.ensures ∙ sym c.deref.ensures.len ∙ ap (λ q. length q) c.deref.ensures.value in
+    let e : c.push_reserved.new.self.items ≡ cs ++ c.args.clause ∷ [] = c.push_reserved.ensures.items ∙ ap (λ q. q ++ c.args.clause ∷ []) c.in_ok-reserve.ensures.items in
+    store_new cs c.push_reserved.new.self.items ns after c.replace.new.live.items c.args.clause c.len-number.result c.self.invariant.0 a b e c.in_ok-replace.ensures.ok.2 n

@@ -1,9 +1,10 @@
-use Rattle.std.proofs.Common.{◌⊎◌, ℕ, List, sym, subst}
+use Rattle.std.proofs.Common.{◌⊎◌, ℕ, List, sym, subst, ap}
 use Rattle.cd_base.specs.Lists.{OneOf}
 use Rattle.cd_clause.specs.declared.elem.Elem.TheVariants.{Exist}
 use Rattle.cd_store.specs.Filing.{ends_in, goes_on_from, listed}
 use Rattle.cd_store.specs.LookUps.{HasElem}
 use Rattle.cd_store.proofs.Gaining.{gain_both, gain_less, gain_list}
+use Rattle.cd_store.specs.Store.{StoreState}
 use Rattle.cd_store.proofs.Leasts.{elem_listed}
 use Rattle.cd_store.proofs.store.Store.push_with_existential.Goals as goal
 
@@ -15,8 +16,8 @@ returns c =
     let old = c.args.found.now.items in
     let mid = c.extend_from_slice.new.self.items in
     let new = c.extend_from_slice-2.new.self.items in
-    gain_less (HasElem c.args.self.now.0 (Exist c.args.role c.args.key.now)) (λ m. P m ⊎ R m) old new
-    (λ m h. elem_listed f c.args.self.now c.self.inside.clauses.items c.self.inside.live.items (Exist c.args.role c.args.key.now) m c.self.view_is c.self.invariant.1 h)
+    gain_less (HasElem c.args.self.now.clauses (Exist c.args.role c.args.key.now)) (λ m. P m ⊎ R m) old new
+    (λ m h. elem_listed f c.args.self.now.clauses c.self.inside.clauses.items (Exist c.args.role c.args.key.now) m (ap (λ (s : StoreState). s.clauses) c.self.view_is) c.self.invariant.1 h)
     (gain_both P R old mid new
     (gain_list P old mid c.ending_in_existential.result.now c.in_ok-extend_from_slice.ensures.items (λ m h. subst (λ (l : List ℕ). OneOf m l) (sym c.ending_in_existential.ensures) h))
     (gain_list R mid new c.going_on_from_existential.result.now c.in_ok-extend_from_slice-2.ensures.items (λ m h. subst (λ (l : List ℕ). OneOf m l) (sym c.going_on_from_existential.ensures) h)))

@@ -1,5 +1,5 @@
 use Rattle.cd_context.proofs.Justify.{owed_justified}
-use Rattle.cd_context.proofs.owed_is_justified.Goals as goal
+use Rattle.cd_context.proofs.laws.owed_is_justified.Goals as goal
 
 pub returns : goal.returns
 returns c = owed_justified
