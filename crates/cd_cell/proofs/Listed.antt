@@ -4,7 +4,7 @@ use Rattle.std.proofs.lemmas.List.{append-nil, map-append}
 use Rattle.cd_base.proofs.Members.{member_left, member_right, member_cases, member_map}
 use Rattle.cd_base.specs.Lists.{OneOf, HasNoRepeats}
 use Rattle.cd_base.specs.declared.normal.Normal.{Normal}
-use Rattle.cd_context.specs.Calls.{ListsOwed}
+use Rattle.cd_context.specs.Contract.{ListsOwed}
 use Rattle.cd_context.specs.Owes.{Owes, owes_link, owes_back, owes_dead}
 use Rattle.cd_context.specs.State.{State}
 use Rattle.cd_context.specs.declared.facts.Fact.{Fact}

@@ -5,7 +5,7 @@ use Rattle.cd_base.proofs.Members.{member_left, member_right, member_cases}
 use Rattle.cd_base.specs.Lists.{OneOf}
 use Rattle.cd_base.specs.declared.normal.Normal.{Normal}
 use Rattle.cd_context.proofs.Justify.{owed_justified}
-use Rattle.cd_context.specs.Calls.{Sends}
+use Rattle.cd_context.specs.Contract.{Sends}
 use Rattle.cd_base.specs.Counts.{last}
 use Rattle.cd_context.specs.Facts.{has_fact, count}
 use Rattle.cd_context.specs.Justified.{IsContext, ClosedLocally}

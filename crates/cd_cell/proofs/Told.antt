@@ -3,7 +3,7 @@ use Rattle.std.proofs.Common.{◌≡◌, ◌≤◌, ◌+◌, ◌-◌, ℕ, min, 
 use Rattle.std.specs.Map.{lookup, set_value}
 use Rattle.cd_base.specs.Lists.{HasNoRepeats}
 use Rattle.cd_base.specs.declared.normal.Normal.{Normal}
-use Rattle.cd_context.specs.Calls.{Grows}
+use Rattle.cd_context.specs.Contract.{Grows}
 use Rattle.cd_base.specs.Counts.{last}
 use Rattle.cd_context.specs.Facts.{same_key, count}
 use Rattle.cd_context.specs.Justified.{Justified, IsContext, ClosedLocally}

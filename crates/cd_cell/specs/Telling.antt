@@ -3,7 +3,7 @@ use Rattle.std.specs.Prelude.{◌≡◌, ◌<◌, ◌⊎◌, ℕ, true, false, L
 use Rattle.cd_base.specs.Lists.{OneOf, HasNoRepeats}
 use Rattle.cd_base.specs.declared.normal.Normal.{Normal}
 use Rattle.cd_clause.specs.Derivations.{Reachable}
-use Rattle.cd_context.specs.Calls.{Grows}
+use Rattle.cd_context.specs.Contract.{Grows}
 use Rattle.cd_base.specs.Counts.{last}
 use Rattle.cd_context.specs.Facts.{has_fact, same_key, count}
 use Rattle.cd_context.specs.Justified.{Justified, IsContext, ClosedLocally}

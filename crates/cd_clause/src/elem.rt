@@ -1,7 +1,7 @@
 //! The elements of clauses.
 ghost use Rattle.std.specs.Prelude.{◌≡◌, map, IfOk};
 ghost use Rattle.cd_base.specs.Keys.{code};
-ghost use Rattle.cd_clause.specs.Dictionary.{is_at_most, same_numbers};
+ghost use Rattle.cd_clause.specs.Dictionary.{is_at_most};
 ghost use Rattle.cd_clause.specs.Elements.{same_elem, is_before};
 
 use cd_base::{Atom, Key, Lit, Memory, Role};
@@ -39,17 +39,12 @@ impl Elem {
     pub fn is_same(&self, other: &Elem) -> bool
         ensures { result ≡ same_elem self.now other.now }
     {
-        match self {
-            Elem::Plain(left) => match other {
-                Elem::Plain(right) => left.0 == right.0,
-                Elem::Exist(_, _) => false,
-            },
-            Elem::Exist(role, key) => match other {
-                Elem::Plain(_) => false,
-                Elem::Exist(other_role, other_key) => {
-                    role.0 == other_role.0 && are_same(key.lits(), other_key.lits())
-                }
-            },
+        match (self, other) {
+            (Elem::Plain(left), Elem::Plain(right)) => left == right,
+            (Elem::Exist(role, key), Elem::Exist(other_role, other_key)) => {
+                role == other_role && key == other_key
+            }
+            _ => false,
         }
     }
 
@@ -57,21 +52,17 @@ impl Elem {
     pub(crate) fn is_before(&self, other: &Elem) -> bool
         ensures { result ≡ is_before self.now other.now }
     {
-        match self {
-            Elem::Plain(left) => match other {
-                Elem::Plain(right) => left.0 < right.0,
-                Elem::Exist(_, _) => true,
-            },
-            Elem::Exist(role, key) => match other {
-                Elem::Plain(_) => false,
-                Elem::Exist(other_role, other_key) => {
-                    if role.0 == other_role.0 {
-                        !are_at_most(other_key.lits(), key.lits())
-                    } else {
-                        role.0 < other_role.0
-                    }
+        match (self, other) {
+            (Elem::Plain(left), Elem::Plain(right)) => left < right,
+            (Elem::Plain(_), Elem::Exist(_, _)) => true,
+            (Elem::Exist(_, _), Elem::Plain(_)) => false,
+            (Elem::Exist(role, key), Elem::Exist(other_role, other_key)) => {
+                if role == other_role {
+                    !are_at_most(other_key.lits(), key.lits())
+                } else {
+                    role < other_role
                 }
-            },
+            }
         }
     }
 }
@@ -93,20 +84,6 @@ pub(crate) fn are_at_most(left: &[Lit], right: &[Lit]) -> bool
                     false
                 }
             }
-        },
-    }
-}
-
-/// Whether the codes are the same, one by one.
-fn are_same(left: &[Lit], right: &[Lit]) -> bool
-    ensures { result ≡ same_numbers (map code left.now) (map code right.now) }
-{
-    match left {
-        [] => right.is_empty(),
-        [first, left_rest @ ..] => match right {
-            [] => false,
-            [second, right_rest @ ..] => first.code() == second.code()
-                && are_same(left_rest, right_rest),
         },
     }
 }

@@ -1,5 +1,6 @@
 //! Which elements of a clause the rules work on.
 ghost use Rattle.std.specs.Prelude.{◌≡◌, ◌<◌, ◌↔◌, length, slice_index_or, true};
+ghost use Rattle.std.specs.List.{list_all};
 ghost use Rattle.cd_base.specs.Keys.{is_named};
 ghost use Rattle.cd_clause.specs.Dictionary.{is_at_most};
 ghost use Rattle.cd_clause.specs.Elements.{rank, Eligible};
@@ -20,35 +21,29 @@ pub fn eligible(clause: &Clause, i: usize, normal: &Normal) -> bool
         (slice_index_or clause.now i (Plain 0)) clause.now }
 {
     let elems = clause.elems();
-    let chosen = &elems[i];
-    'elems: for elem in elems {
-        if !is_at_most(elem, chosen, normal) {
-            return false;
-        }
-    }
-    true
+    are_at_most_one(elems, &elems[i], normal)
+}
+
+/// Whether each of the elements is at most this one in the order of the calculus.
+fn are_at_most_one(elems: &[Elem], one: &Elem, normal: &Normal) -> bool
+    ensures { result ≡ list_all
+        (λ elem. is_at_most (rank normal.now elem) (rank normal.now one.now)) elems.now }
+{
+    elems.iter().all(|elem| is_at_most(elem, one, normal))
 }
 
 /// Whether the first element is at most the second in the order of the calculus.
 fn is_at_most(left: &Elem, right: &Elem, normal: &Normal) -> bool
     ensures { result ≡ is_at_most (rank normal.now left.now) (rank normal.now right.now) }
 {
-    match left {
-        Elem::Plain(a) => match right {
-            Elem::Plain(b) => normal.is_named(*a) || (!normal.is_named(*b) && a.0 <= b.0),
-            Elem::Exist(_, _) => true,
-        },
-        Elem::Exist(r, k) => match right {
-            Elem::Plain(_) => false,
-            Elem::Exist(s, l) => {
-                if r.0 < s.0 {
-                    true
-                } else if r.0 == s.0 {
-                    are_at_most(k.lits(), l.lits())
-                } else {
-                    false
-                }
-            }
-        },
+    match (left, right) {
+        (Elem::Plain(a), Elem::Plain(b)) => {
+            normal.is_named(*a) || (!normal.is_named(*b) && a <= b)
+        }
+        (Elem::Plain(_), Elem::Exist(_, _)) => true,
+        (Elem::Exist(_, _), Elem::Plain(_)) => false,
+        (Elem::Exist(r, k), Elem::Exist(s, l)) => {
+            r < s || (r == s && are_at_most(k.lits(), l.lits()))
+        }
     }
 }

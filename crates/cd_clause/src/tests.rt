@@ -21,15 +21,11 @@ fn clause(rt: &impl Abort, alloc: Global, elems: &[Elem]) -> Clause {
 /// Whether they are these elements in this order.
 fn are(clause: &Clause, wanted: &[Elem]) -> bool {
     let elems = clause.elems();
-    if elems.len() != wanted.len() {
-        return false;
-    }
-    for (elem, one) in elems.iter().zip(wanted) {
-        if !elem.is_same(one) {
-            return false;
-        }
-    }
-    true
+    elems.len() == wanted.len()
+        && elems
+            .iter()
+            .zip(wanted)
+            .all(|(elem, one)| elem.is_same(one))
 }
 
 #[test]

@@ -18,10 +18,8 @@ pub(crate) fn with_copies(
     ensures { IfOk result (λ elems. elems.items ≡ below.items ++ all.now) }
 {
     let mut elems = below;
-    let mut rest = all;
-    'copies: while let [first, others @ ..] = rest {
-        elems.push(first.copy()?)?;
-        rest = others;
+    for elem in all {
+        elems.push(elem.copy()?)?;
     }
     Ok(elems)
 }
@@ -38,7 +36,7 @@ pub(crate) fn joined(
     let mut elems = SmallVec::new(alloc);
     let mut left_rest = left;
     let mut right_rest = right;
-    'walk: while let [first, left_others @ ..] = left_rest {
+    while let [first, left_others @ ..] = left_rest {
         match right_rest {
             [] => return with_copies(elems, left_rest),
             [second, right_others @ ..] => {
@@ -69,15 +67,13 @@ pub(crate) fn with_elem(
     ensures { IfOk result (λ elems. elems.items ≡ merged is_before (elem ∷ []) all.now) }
 {
     let mut elems = SmallVec::new(alloc);
-    let mut rest = all;
-    'below: while let [first, others @ ..] = rest {
-        if !first.is_before(&elem) {
-            return with_above(elems, elem, rest);
+    for (place, old) in all.iter().enumerate() {
+        if !old.is_before(&elem) {
+            return with_above(elems, elem, &all[place..]);
         }
-        elems.push(first.copy()?)?;
-        rest = others;
+        elems.push(old.copy()?)?;
     }
-    with_above(elems, elem, rest)
+    with_above(elems, elem, &[])
 }
 
 /// The elements with one more, and then copies of the rest, which may begin with it.
@@ -112,7 +108,7 @@ pub(crate) fn are_within(left: &[Elem], right: &[Elem]) -> bool
 {
     let mut wanted = left;
     let mut rest = right;
-    'walk: while let [elem, others @ ..] = rest {
+    while let [elem, others @ ..] = rest {
         match wanted {
             [] => return true,
             [first, later @ ..] => {

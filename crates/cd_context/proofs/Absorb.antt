@@ -16,7 +16,7 @@ use Rattle.cd_context.specs.declared.facts.Fact.TheVariants.{Start, Link, Back, 
 use Rattle.cd_context.specs.declared.facts.LinkFact.{LinkFact}
 use Rattle.cd_context.specs.declared.facts.Note.{Note}
 use Rattle.cd_context.specs.Absorbing.{Keeps, Absorbs}
-use Rattle.cd_context.specs.Calls.{GainsOnly, Sends}
+use Rattle.cd_context.specs.Contract.{GainsOnly, Sends}
 use Rattle.cd_context.specs.Justified.{Justified, IsContext, ClosedLocally, IsInTurn}
 use Rattle.cd_context.specs.Owes.{Owes}
 use Rattle.cd_context.specs.State.{State}

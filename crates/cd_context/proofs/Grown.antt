@@ -10,7 +10,7 @@ use Rattle.cd_rules.specs.declared.facts.DeadFact.{DeadFact}
 use Rattle.cd_context.specs.declared.facts.Fact.{Fact}
 use Rattle.cd_context.specs.declared.facts.Fact.TheVariants.{Start, Link, Back, Dead}
 use Rattle.cd_context.specs.declared.facts.LinkFact.{LinkFact}
-use Rattle.cd_context.specs.Calls.{Grows}
+use Rattle.cd_context.specs.Contract.{Grows}
 use Rattle.cd_base.specs.Counts.{last}
 use Rattle.cd_context.specs.Facts.{same_key, has_fact, count}
 use Rattle.cd_context.specs.State.{State}

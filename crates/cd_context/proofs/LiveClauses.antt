@@ -11,7 +11,7 @@ use Rattle.cd_clause.specs.declared.elem.Elem.{Elem}
 use Rattle.cd_clause.specs.declared.elem.Elem.TheVariants.{Plain, Exist}
 use Rattle.cd_clause.proofs.Order.{elems_strict}
 use Rattle.cd_clause.specs.Derivations.{IsSingle}
-use Rattle.cd_context.specs.Only.{is_only}
+use Rattle.cd_context.specs.UnitClauses.{is_only}
 use Rattle.cd_store.specs.Store.{ContainsNoEarlier, IsAscending, IsStore}
 use Rattle.cd_store.proofs.Helpers.{get_same}
 use Rattle.cd_store.proofs.Picks.{picked_from, picked_in}

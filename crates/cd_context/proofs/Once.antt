@@ -16,7 +16,7 @@ use Rattle.cd_context.specs.declared.facts.Fact.{Fact}
 use Rattle.cd_context.specs.declared.facts.Fact.TheVariants.{Start, Link, Back, Dead}
 use Rattle.cd_context.specs.declared.facts.Note.{Note}
 use Rattle.cd_base.specs.Appends.{AppendsOnce}
-use Rattle.cd_context.specs.Once.{HasEachOnce}
+use Rattle.cd_context.specs.EachOnce.{HasEachOnce}
 
 -- ---- what equal notes are
 

@@ -19,12 +19,12 @@ use Rattle.cd_rules.specs.LookUps.{AreAtAtom}
 use Rattle.cd_context.specs.declared.facts.Fact.TheVariants.{Back}
 use Rattle.cd_context.specs.declared.facts.LinkFact.{LinkFact}
 use Rattle.cd_context.specs.declared.facts.Note.{Note}
-use Rattle.cd_context.specs.Calls.{Sends, ListsOwed}
+use Rattle.cd_context.specs.Contract.{Sends, ListsOwed}
 use Rattle.cd_base.specs.Appends.{Appends}
 use Rattle.cd_base.proofs.Appending.{OfBelow, OfOne, otherwise}
 use Rattle.cd_base.specs.Appends.{AppendsOnce}
 use Rattle.cd_context.specs.Owes.{Owes, owes_link, owes_back, owes_dead}
-use Rattle.cd_context.specs.Parts.{AreFrom, IsUnderOne, IsOfUse, IsLinkNote, IsDeadNote, IsUsefulBack, IsLinkAt, IsBackAt, IsLinkOf, IsToldTo, IsToldBy, IsOwedBy}
+use Rattle.cd_context.specs.OwedParts.{AreFrom, IsUnderOne, IsOfUse, IsLinkNote, IsDeadNote, IsUsefulBack, IsLinkAt, IsBackAt, IsLinkOf, IsToldTo, IsToldBy, IsOwedBy}
 use Rattle.cd_context.specs.State.{State, live_of}
 use Rattle.cd_rules.proofs.Found.{filtered_member, member_filtered}
 

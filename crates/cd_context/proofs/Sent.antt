@@ -13,7 +13,7 @@ use Rattle.cd_store.specs.Store.{StoreState}
 use Rattle.cd_context.specs.declared.facts.Fact.TheVariants.{Link, Back, Dead}
 use Rattle.cd_context.specs.declared.facts.LinkFact.{LinkFact}
 use Rattle.cd_context.specs.declared.facts.Note.{Note}
-use Rattle.cd_context.specs.Calls.{Sends}
+use Rattle.cd_context.specs.Contract.{Sends}
 use Rattle.cd_context.specs.Owes.{Owes, owes_link, owes_back, owes_dead}
 use Rattle.cd_context.specs.State.{State, live_of}
 use Rattle.cd_context.specs.TakeUp.{Continues}

@@ -8,7 +8,7 @@ use Rattle.cd_clause.specs.Numbers.{picked}
 use Rattle.cd_clause.specs.declared.elem.Elem.{Elem}
 use Rattle.cd_clause.specs.declared.elem.Elem.TheVariants.{Plain}
 use Rattle.cd_clause.specs.Derivations.{IsSingle}
-use Rattle.cd_context.specs.Only.{is_only}
+use Rattle.cd_context.specs.UnitClauses.{is_only}
 use Rattle.cd_context.proofs.LiveClauses.{only_single}
 use Rattle.cd_store.proofs.Picks.{picked_from, picked_in}
 

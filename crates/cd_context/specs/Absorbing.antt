@@ -3,7 +3,7 @@ use Rattle.std.specs.Prelude.{◌≡◌, ◌<◌, ◌⊎◌, true, List}
 use Rattle.cd_base.specs.declared.normal.Normal.{Normal}
 use Rattle.cd_context.specs.declared.facts.Fact.{Fact}
 use Rattle.cd_context.specs.declared.facts.Note.{Note}
-use Rattle.cd_context.specs.Calls.{Grows, GainsOnly, Sends}
+use Rattle.cd_context.specs.Contract.{Grows, GainsOnly, Sends}
 use Rattle.cd_base.specs.Counts.{last}
 use Rattle.cd_context.specs.Facts.{has_fact, count}
 use Rattle.cd_context.specs.Justified.{IsContext, ClosedLocally}

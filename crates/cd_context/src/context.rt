@@ -4,7 +4,7 @@ ghost use Rattle.std.specs.List.Sorted.{IsStrictlyIncreasing};
 ghost use Rattle.cd_base.specs.Lists.{OneOf};
 ghost use Rattle.cd_clause.specs.Derivations.{Reachable, IsSingle};
 ghost use Rattle.cd_context.specs.Absorbing.{Keeps, Absorbs};
-ghost use Rattle.cd_context.specs.Calls.{Grows, GainsOnly, Sends, ListsOwed};
+ghost use Rattle.cd_context.specs.Contract.{Grows, GainsOnly, Sends, ListsOwed};
 ghost use Rattle.cd_base.specs.Counts.{last};
 ghost use Rattle.cd_context.specs.Facts.{has_fact, count};
 ghost use Rattle.cd_context.specs.Justified.{Justified, IsContext, ClosedLocally};

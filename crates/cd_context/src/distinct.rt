@@ -5,7 +5,7 @@ ghost use Rattle.std.specs.Hash as fed;
 ghost use Rattle.std.proofs.Common.{rules};
 ghost use Rattle.cd_base.specs.Appends.{AppendsOnce};
 ghost use Rattle.cd_base.specs.Lists.{OneOf};
-ghost use Rattle.cd_context.specs.Once.{HasEachOnce};
+ghost use Rattle.cd_context.specs.EachOnce.{HasEachOnce};
 ghost use Rattle.cd_context.specs.FactWrites.{fact_writes};
 
 use crate::facts::Note;

@@ -5,7 +5,7 @@ ghost use Rattle.cd_base.specs.Lists.{OneOf, SameSet};
 ghost use Rattle.cd_clause.specs.Numbers.{picked};
 ghost use Rattle.cd_clause.specs.declared.elem.Elem.TheVariants.{Plain};
 ghost use Rattle.cd_clause.specs.Derivations.{IsSingle};
-ghost use Rattle.cd_context.specs.Only.{is_only};
+ghost use Rattle.cd_context.specs.UnitClauses.{is_only};
 ghost use Rattle.cd_store.specs.Store.{IsStore};
 
 use cd_base::{Atom, Memory};

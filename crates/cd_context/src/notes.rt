@@ -4,7 +4,7 @@ ghost use Rattle.std.specs.Prelude.{◌≡◌, ◌↔◌, ◌<◌, length, true,
 ghost use Rattle.cd_base.specs.Lists.{OneOf};
 ghost use Rattle.cd_rules.specs.LookUps.{AreAtAtom};
 ghost use Rattle.cd_base.specs.Appends.{Appends};
-ghost use Rattle.cd_context.specs.Parts.{IsUnderOne, IsLinkNote, IsBackNote, IsDeadNote, IsUsefulBack, IsLinkAt, IsBackAt, IsLinkOf, IsToldBy};
+ghost use Rattle.cd_context.specs.OwedParts.{IsUnderOne, IsLinkNote, IsBackNote, IsDeadNote, IsUsefulBack, IsLinkAt, IsBackAt, IsLinkOf, IsToldBy};
 ghost use Rattle.cd_context.specs.declared.facts.LinkFact.{LinkFact};
 
 use crate::facts::{Fact, LinkFact, Note};

@@ -2,10 +2,10 @@
 ghost use Rattle.std.specs.Prelude.{◌∷◌, ◌++◌, ◌<◌, ℕ, [], length, nat_lt, filter, IsOk, List, slice_index_or};
 ghost use Rattle.cd_base.specs.Lists.{OneOf};
 ghost use Rattle.cd_store.specs.Store.{IsAscending};
-ghost use Rattle.cd_context.specs.Calls.{Sends};
+ghost use Rattle.cd_context.specs.Contract.{Sends};
 ghost use Rattle.cd_base.specs.Appends.{Appends};
 ghost use Rattle.cd_context.specs.Owes.{Owes};
-ghost use Rattle.cd_context.specs.Parts.{AreFrom, IsOwedBy, IsToldBy};
+ghost use Rattle.cd_context.specs.OwedParts.{AreFrom, IsOwedBy, IsToldBy};
 ghost use Rattle.cd_context.specs.declared.facts.LinkFact.{LinkFact};
 ghost use Rattle.cd_rules.specs.declared.facts.BackFact.{BackFact};
 ghost use Rattle.cd_rules.specs.declared.facts.DeadFact.{DeadFact};

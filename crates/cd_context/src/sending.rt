@@ -1,6 +1,6 @@
 //! Sending what a context came to owe: all of it, or after `Memory` nothing.
 ghost use Rattle.std.specs.Prelude.{◌≡◌, nat_lt, filter, List, OnOk, OnErr};
-ghost use Rattle.cd_context.specs.Calls.{Sends};
+ghost use Rattle.cd_context.specs.Contract.{Sends};
 ghost use Rattle.cd_context.specs.Owes.{Owes};
 ghost use Rattle.cd_rules.specs.declared.facts.BackFact.{BackFact};
 ghost use Rattle.cd_rules.specs.declared.facts.DeadFact.{DeadFact};

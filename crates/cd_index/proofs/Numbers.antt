@@ -19,6 +19,9 @@ numbers_more test n = ap (filter test) (range_more n) ∙ filter-append test (ra
 pub left_is : (axioms : List Conj) (k : ℕ) (c : Conj) → k < length axioms → left_of axioms k ≡ (get_or axioms k c).left
 left_is axioms k c lt = get_or-map (λ (a : Conj). a.left) axioms k c [] lt
 
+pub left_read : (axioms : List Conj) (k : ℕ) (c : Conj) → k < length axioms → c ≡ get_or axioms k c → left_of axioms k ≡ c.left
+left_read axioms k c lt is = left_is axioms k c lt ∙ ap (λ (a : Conj). a.left) (sym is)
+
 pub numbers_taken : (test : ℕ → Bool) (n : ℕ) (xs ys : List ℕ) → test n ≡ true → xs ≡ filter test (range_with_len 0 n) → ys ≡ xs ++ n ∷ []
     → ys ≡ filter test (range_with_len 0 (n + 1))
 numbers_taken test n xs ys passes before is =

@@ -14,8 +14,8 @@ pub(crate) fn free_numbers(alloc: Global, axioms: &[Conj]) -> Result<Seq<usize>,
     ensures { IfOk result (λ free. free ≡ free_numbers axioms.now) }
 {
     let mut free = Vec::new(alloc);
-    for number in 0..axioms.len() {
-        if axioms[number].left.items().is_empty() {
+    for (number, axiom) in axioms.iter().enumerate() {
+        if axiom.left.items().is_empty() {
             free.push(number)?;
         }
     }
@@ -32,8 +32,8 @@ pub(crate) fn numbers_by_atom(
     ensures { IfOk result (λ lists. AreLists atoms lists.items (numbers_with axioms.now)) }
 {
     let mut lists = empty_lists(alloc, atoms as usize)?;
-    for number in 0..axioms.len() {
-        note(&mut lists, axioms[number].left.items(), number)?;
+    for (number, axiom) in axioms.iter().enumerate() {
+        note(&mut lists, axiom.left.items(), number)?;
     }
     Ok(lists)
 }
@@ -83,8 +83,8 @@ pub(crate) fn file_numbers(
     ensures { IfOk result (λ filed. IsFiling axioms.now atoms filed.items) }
 {
     let mut filed = empty_lists(alloc, atoms as usize)?;
-    for number in 0..axioms.len() {
-        if let Some(atom) = rarest(lists, axioms[number].left.items()) {
+    for (number, axiom) in axioms.iter().enumerate() {
+        if let Some(atom) = rarest(lists, axiom.left.items()) {
             filed[atom.0 as usize].push(number)?;
         }
     }

@@ -3,4 +3,4 @@ use Rattle.cd_clause.proofs.Clauses.{walk_ends}
 use Rattle.cd_clause.proofs.walk.are_within.Goals as goal
 
 pub returns : goal.returns
-returns c = walk_ends c.walk.wanted.now c.walk.rest.now _ c.is_empty.ensures c.in_default.len_below ∙ sym c.walk.invariant
+returns c = walk_ends c.loop-rest.wanted.now c.loop-rest.rest.now _ c.is_empty.ensures c.in_default.len_below ∙ sym c.loop-rest.invariant

@@ -1,7 +1,7 @@
 use Rattle.std.proofs.Common.{◌≡◌, true, List, sym, subst}
 use Rattle.std.specs.Result.{IsOk}
 use Rattle.cd_context.specs.declared.facts.Note.{Note}
-use Rattle.cd_context.specs.Once.{HasEachOnce}
+use Rattle.cd_context.specs.EachOnce.{HasEachOnce}
 use Rattle.cd_base.proofs.Appending.{failed}
 use Rattle.cd_context.proofs.Once.{adding_begins, adding_goes, adding_stops, adding_ends}
 use Rattle.cd_context.proofs.distinct.append_distinct.Goals as goal

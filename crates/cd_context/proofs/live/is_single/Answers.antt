@@ -2,7 +2,7 @@ use Rattle.std.proofs.Common.{◌≡◌, ◌↔◌, true, [], ◌∷◌, List, s
 use Rattle.cd_base.specs.Lists.{SameSet}
 use Rattle.cd_clause.specs.declared.elem.Elem.{Elem}
 use Rattle.cd_clause.specs.declared.elem.Elem.TheVariants.{Plain}
-use Rattle.cd_context.specs.Only.{is_only}
+use Rattle.cd_context.specs.UnitClauses.{is_only}
 use Rattle.cd_context.proofs.LiveClauses.{only_single}
 use Rattle.cd_context.proofs.live.is_single.Goals as goal
 

@@ -3,7 +3,7 @@ use Rattle.std.specs.Result.{IsOk}
 use Rattle.cd_base.specs.Appends.{Appends}
 use Rattle.cd_base.specs.Lists.{OneOf}
 use Rattle.cd_base.proofs.Appending.{OfBelow, below_begins, below_goes, below_stops, failed, member_grows}
-use Rattle.cd_context.specs.Parts.{IsLinkAt}
+use Rattle.cd_context.specs.OwedParts.{IsLinkAt}
 use Rattle.cd_context.proofs.Owed.{links_end}
 use Rattle.cd_context.proofs.notes.note_links.Goals as goal
 

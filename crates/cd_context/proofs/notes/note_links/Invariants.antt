@@ -1,7 +1,7 @@
 use Rattle.cd_base.specs.Appends.{Appends}
 use Rattle.cd_base.specs.Lists.{OneOf}
 use Rattle.cd_base.proofs.Appending.{OfBelow}
-use Rattle.cd_context.specs.Parts.{IsLinkAt}
+use Rattle.cd_context.specs.OwedParts.{IsLinkAt}
 use Rattle.cd_context.proofs.notes.note_links.Given as goal
 
 abbrev pub invariant-places : goal.invariant-places

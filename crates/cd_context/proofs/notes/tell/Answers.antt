@@ -4,7 +4,7 @@ use Rattle.std.proofs.lemmas.List.{nil_from_length}
 use Rattle.cd_base.specs.Appends.{Appends}
 use Rattle.cd_base.specs.Lists.{OneOf}
 use Rattle.cd_base.proofs.Appending.{OfBelow, below_begins, below_goes, below_stops, failed, member_grows}
-use Rattle.cd_context.specs.Parts.{IsBackAt}
+use Rattle.cd_context.specs.OwedParts.{IsBackAt}
 use Rattle.cd_context.proofs.Owed.{deads_end, told_end}
 use Rattle.cd_context.proofs.notes.tell.Goals as goal
 

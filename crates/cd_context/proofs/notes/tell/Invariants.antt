@@ -1,7 +1,7 @@
 use Rattle.cd_base.specs.Appends.{Appends}
 use Rattle.cd_base.specs.Lists.{OneOf}
 use Rattle.cd_base.proofs.Appending.{OfBelow}
-use Rattle.cd_context.specs.Parts.{IsBackAt}
+use Rattle.cd_context.specs.OwedParts.{IsBackAt}
 use Rattle.cd_context.proofs.notes.tell.Given as goal
 
 abbrev pub invariant-places : goal.invariant-places

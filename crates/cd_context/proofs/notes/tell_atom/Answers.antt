@@ -3,7 +3,7 @@ use Rattle.std.specs.Result.{IsOk}
 use Rattle.std.proofs.lemmas.List.{nil_from_length}
 use Rattle.cd_base.specs.Lists.{OneOf}
 use Rattle.cd_base.specs.declared.normal.Triple.{Triple}
-use Rattle.cd_context.specs.Parts.{IsUsefulBack}
+use Rattle.cd_context.specs.OwedParts.{IsUsefulBack}
 use Rattle.cd_base.proofs.Appending.{OfOne, failed, member_grows, none, walk_ends, walk_goes, walk_stops}
 use Rattle.cd_context.proofs.Owed.{use_found}
 use Rattle.cd_context.proofs.notes.tell_atom.Goals as goal

@@ -1,7 +1,7 @@
 use Rattle.std.proofs.Common.{◌≡◌, true}
 use Rattle.std.specs.Result.{IsOk}
 use Rattle.std.proofs.lemmas.Bool.{both_ways}
-use Rattle.cd_context.specs.Parts.{IsBackNote, IsUsefulBack}
+use Rattle.cd_context.specs.OwedParts.{IsBackNote, IsUsefulBack}
 use Rattle.cd_base.proofs.Appending.{none, otherwise}
 use Rattle.cd_context.proofs.Owed.{of_use, use_found}
 use Rattle.cd_context.proofs.notes.tell_back.Goals as goal

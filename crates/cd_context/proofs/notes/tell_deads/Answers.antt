@@ -1,6 +1,6 @@
 use Rattle.std.proofs.Common.{◌≡◌, true, refl}
 use Rattle.std.specs.Result.{IsOk}
-use Rattle.cd_context.specs.Parts.{IsDeadNote}
+use Rattle.cd_context.specs.OwedParts.{IsDeadNote}
 use Rattle.cd_base.proofs.Appending.{failed, member_grows, walk_ends, walk_goes, walk_stops}
 use Rattle.cd_context.proofs.notes.tell_deads.Goals as goal
 

@@ -1,5 +1,5 @@
 use Rattle.std.proofs.Common.{length}
-use Rattle.cd_context.specs.Parts.{IsDeadNote}
+use Rattle.cd_context.specs.OwedParts.{IsDeadNote}
 use Rattle.cd_base.proofs.Appending.{HasWalked}
 use Rattle.cd_base.specs.Lists.{OneOf}
 use Rattle.cd_context.proofs.notes.tell_deads.Given as goal

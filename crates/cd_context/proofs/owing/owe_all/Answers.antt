@@ -6,7 +6,7 @@ use Rattle.cd_clause.specs.declared.elem.Elem.{Elem}
 use Rattle.cd_base.specs.Appends.{Appends}
 use Rattle.cd_base.specs.Lists.{OneOf}
 use Rattle.cd_base.proofs.Appending.{failed, member_grows, next_member, walk_ends, walk_goes, walk_stops}
-use Rattle.cd_context.specs.Parts.{IsOwedBy}
+use Rattle.cd_context.specs.OwedParts.{IsOwedBy}
 use Rattle.cd_context.proofs.Owed.{first_read, OwedByOne}
 use Rattle.cd_context.proofs.owing.owe_all.Goals as goal
 

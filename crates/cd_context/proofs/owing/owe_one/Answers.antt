@@ -1,6 +1,6 @@
 use Rattle.std.proofs.Common.{◌≡◌, ◌⊎◌, true, refl}
 use Rattle.std.specs.Result.{IsOk}
-use Rattle.cd_context.specs.Parts.{IsLinkOf, IsToldBy, IsOwedBy}
+use Rattle.cd_context.specs.OwedParts.{IsLinkOf, IsToldBy, IsOwedBy}
 use Rattle.cd_base.proofs.Appending.{both, member_grows, otherwise}
 use Rattle.cd_context.proofs.owing.owe_one.Goals as goal
 

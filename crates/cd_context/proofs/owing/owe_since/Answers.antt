@@ -4,7 +4,7 @@ use Rattle.cd_base.specs.Lists.{OneOf}
 use Rattle.cd_clause.specs.declared.elem.Elem.{Elem}
 use Rattle.cd_base.specs.Appends.{Appends}
 use Rattle.cd_base.proofs.Appending.{OfOne}
-use Rattle.cd_context.specs.Parts.{AreFrom}
+use Rattle.cd_context.specs.OwedParts.{AreFrom}
 use Rattle.cd_context.proofs.Owed.{sends_since, OwedByOne}
 use Rattle.cd_context.proofs.owing.owe_since.Goals as goal
 

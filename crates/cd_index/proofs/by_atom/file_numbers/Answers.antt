@@ -1,7 +1,7 @@
 use Rattle.std.proofs.Common.{◌≡◌, ℕ, ◌+◌, ◌<◌, true, ◌++◌, [], ◌∷◌, List, Vec, Global, sym, ap, subst, ◌∙◌, arith}
 use Rattle.cd_index.specs.Index.{has, left_of}
 use Rattle.std.proofs.lemmas.List.{get_or_default}
-use Rattle.cd_index.proofs.Numbers.{left_is}
+use Rattle.cd_index.proofs.Numbers.{left_read}
 use Rattle.cd_index.proofs.Filing.{IsFiledUpTo, atom_below, filed_none, filed_one, filed_at_start, filed_all}
 use Rattle.cd_index.proofs.by_atom.file_numbers.Goals as goal
 use Rattle.cd_index.proofs.by_atom.file_numbers.Goals.{in-Some+in_ok-push, in_default}
@@ -14,7 +14,7 @@ index_mut-requires c =
     let axioms = c.args.axioms.now in
     let i = c.loop-number.number in
     let left : left_of axioms i ≡ c.items.result.now
-    = left_is axioms i c.index-axioms-number.result c.loop-number-test.true ∙ sym c.items.ensures in
+    = left_read axioms i c.index-axioms-number.result c.loop-number-test.true c.index-axioms-number.is ∙ sym c.items.ensures in
     let lt : c.in-Some.atom < c.args.atoms = atom_below c.args.atoms axioms i c.in-Some.atom c.requires.within (ap (has c.in-Some.atom) left ∙ c.in-Some.ensures) in
     omega (arith, c.loop-number.filed.ok.0, c.loop-number.invariant.exact.each, c.atom.view_is)
 
@@ -25,7 +25,7 @@ loop-number-preserved c =
     let atoms = c.args.atoms in
     let filed = c.loop-number.filed.items in
     let left : left_of axioms i ≡ c.items.result.now
-    = left_is axioms i c.index-axioms-number.result c.loop-number-test.true ∙ sym c.items.ensures in
+    = left_read axioms i c.index-axioms-number.result c.loop-number-test.true c.index-axioms-number.is ∙ sym c.items.ensures in
     elim c.match-rarest.branch [
       | in-Some+in_ok-push w ↦
           let atom = w.atom.inside.0 in

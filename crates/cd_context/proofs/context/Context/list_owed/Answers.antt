@@ -1,7 +1,7 @@
 use Rattle.std.proofs.Common.{◌≡◌, true, List, filter, subst}
 use Rattle.std.specs.Prelude.{nat_lt}
 use Rattle.std.specs.Result.{IsOk}
-use Rattle.cd_context.specs.Calls.{ListsOwed, Sends}
+use Rattle.cd_context.specs.Contract.{ListsOwed, Sends}
 use Rattle.cd_context.specs.declared.facts.LinkFact.{LinkFact}
 use Rattle.cd_context.specs.declared.facts.Note.{Note}
 use Rattle.cd_context.specs.Owes.{Owes}
