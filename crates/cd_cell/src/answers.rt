@@ -26,12 +26,10 @@ fn named_among(alloc: Global, normal: &Normal, atoms: &[Atom]) -> Result<Vec<Ato
     ensures { IfOk result (λ named. named.items ≡ filter (is_named normal.now) atoms.now) }
 {
     let mut named = Vec::new(alloc);
-    let mut rest = atoms;
-    'atoms: while let [atom, others @ ..] = rest {
+    for atom in atoms {
         if normal.is_named(*atom) {
             named.push(*atom)?;
         }
-        rest = others;
     }
     Ok(named)
 }

@@ -36,20 +36,35 @@ impl<'a> Model for Cell<'a> {
 
     ghost Value = { CellState };
 
-    ghost view = { λ c. record { number = c.number; cells = c.cells; normal = c.index.now.normal;
-        contexts = c.contexts; failed = c.failed } };
+    ghost view = { λ c. record {
+      number = c.number;
+      cells = c.cells;
+      normal = c.index.now.normal;
+      contexts = c.contexts;
+      failed = c.failed;
+    } };
 
     ghost invariant = { λ c. IsSound
-        (record { number = c.number; cells = c.cells; normal = c.index.now.normal;
-        contexts = c.contexts; failed = c.failed }) };
+        (record {
+          number = c.number;
+          cells = c.cells;
+          normal = c.index.now.normal;
+          contexts = c.contexts;
+          failed = c.failed;
+        }) };
 }
 
 impl<'a> Cell<'a> {
     /// The cell of this number among so many, without a context. Takes no memory and constant time.
     pub fn new(alloc: Global, number: u32, cells: u32, index: &'a Index) -> Cell<'a>
         requires { number < cells }
-        ensures { result ≡ record { number = number; cells = cells; normal = index.now.normal;
-            contexts = []; failed = false } }
+        ensures { result ≡ record {
+          number = number;
+          cells = cells;
+          normal = index.now.normal;
+          contexts = [];
+          failed = false;
+        } }
     {
         Cell {
             number,

@@ -85,10 +85,8 @@ impl Contexts {
         ensures { IfOk result (λ notes. AreOwed index.now.normal self.now notes.items) }
     {
         let mut notes = Vec::new(alloc);
-        let mut rest = self.by_key.as_slice();
-        'contexts: while let Some(((_, context), others)) = rest.split_first() {
+        for (_, context) in self.by_key.as_slice() {
             context.list_owed(alloc, index, &mut notes)?;
-            rest = others;
         }
         Ok(notes)
     }

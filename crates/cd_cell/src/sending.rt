@@ -11,7 +11,7 @@ pub(crate) fn send_all(cells: u32, notes: Vec<Note>, out: &mut Outbox<Note>) -> 
     requires { 0 < cells }
     ensures { SendsNotes cells (IsOk result) notes.items out.old out.new }
 {
-    'notes: for note in notes {
+    for note in notes {
         let cell = note.key.place(cells);
         out.put(cell, note)?;
     }

@@ -48,7 +48,7 @@ member_cond : {X : Type 0} (b : Bool) (x : X) (xs : List X) → b ≡ true → O
 member_cond b x xs e m = subst (λ t. OneOf x (cond t xs [])) (sym e) m
 
 abbrev pub Listed : Type 0
-Listed = listing.OneOf
+Listed = listing.Member
 
 abbrev pub entry : ℕ → ℕ → Listed
 entry a x = record { class = a; element = x }

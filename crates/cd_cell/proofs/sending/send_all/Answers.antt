@@ -8,23 +8,19 @@ use Rattle.cd_context.specs.declared.facts.Note.{Note}
 use Rattle.cd_cell.proofs.Sent.{IsSending, sending_goes, sending_ends}
 use Rattle.cd_cell.proofs.sending.send_all.Goals as goal
 
-pub notes-preserved : goal.notes-preserved
-notes-preserved c = record {
-  can = tt;
-  ends = tt;
-  sending = sending_goes c.args.cells c.args.notes.items (into_iter_items c.notes.note-iterator) (into_iter_items c.next.new.self) c.args.out.now c.notes.out c.put.new.self c.place-cell.result c.in-Some.note
-      c.in-Some.ensures.steps.0 c.place-cell.ensures c.in_ok-put.ensures.ok c.notes.invariant.sending;
-}
+pub loop-note-preserved : goal.loop-note-preserved
+loop-note-preserved c = sending_goes c.args.cells c.args.notes.items (into_iter_items c.loop-note.note-iterator) (into_iter_items c.next.new.self) c.args.out.now c.loop-note.out c.put.new.self c.place-cell.result c.in-Some.note
+    c.in-Some.ensures.steps.0 c.place-cell.ensures c.in_ok-put.ensures.ok c.loop-note.invariant
 
 pub returns-in_err-put : goal.returns-in_err-put
 returns-in_err-put c =
-    sending_ends c.args.cells (IsOk c.from_residual.result) c.args.notes.items (into_iter_items c.notes.note-iterator) c.args.out.now c.put.new.self
+    sending_ends c.args.cells (IsOk c.from_residual.result) c.args.notes.items (into_iter_items c.loop-note.note-iterator) c.args.out.now c.put.new.self
     (λ done. absurd (failed c.from_residual.result c.from_residual.ensures.0 done))
-    (subst (λ (l : List (ℕ × Note)). IsSending c.args.cells c.args.notes.items c.args.out.now (into_iter_items c.notes.note-iterator) l) (sym c.in_err-put.ensures.err) c.notes.invariant.sending)
+    (subst (λ (l : List (ℕ × Note)). IsSending c.args.cells c.args.notes.items c.args.out.now (into_iter_items c.loop-note.note-iterator) l) (sym c.in_err-put.ensures.err) c.loop-note.invariant)
 
 pub returns : goal.returns
 returns c =
-    let z : into_iter_len c.notes.note-iterator ≡ 0 = c.in-None.ensures.steps.0 in
-    let none : length (into_iter_items c.notes.note-iterator) ≡ 0 = grind (arith, common_steps) in
-    sending_ends c.args.cells (true ≡ true) c.args.notes.items (into_iter_items c.notes.note-iterator) c.args.out.now c.notes.out
-    (λ done. nil_from_length (into_iter_items c.notes.note-iterator) none) c.notes.invariant.sending
+    let z : into_iter_len c.loop-note.note-iterator ≡ 0 = c.in-None.ensures.steps.0 in
+    let none : length (into_iter_items c.loop-note.note-iterator) ≡ 0 = grind (arith, common_steps) in
+    sending_ends c.args.cells (true ≡ true) c.args.notes.items (into_iter_items c.loop-note.note-iterator) c.args.out.now c.loop-note.out
+    (λ done. nil_from_length (into_iter_items c.loop-note.note-iterator) none) c.loop-note.invariant

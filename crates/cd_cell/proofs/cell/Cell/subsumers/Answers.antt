@@ -3,7 +3,6 @@ use Rattle.std.proofs.lemmas.Option.{none-some}
 use Rattle.std.proofs.lemmas.Result.{IfOk-weaker}
 use Rattle.cd_cell.specs.Cells.{CellState, state_at}
 use Rattle.cd_cell.specs.Subsumers.{HasContext, IsSubsumersIn}
-use Rattle.cd_cell.specs.TrueAnswers.{IsExactIn}
 use Rattle.cd_cell.proofs.Answered.{of_found}
 use Rattle.cd_cell.proofs.Puts.{member_state}
 use Rattle.cd_cell.proofs.TrueAnswers.{exact_answer}
