@@ -78,7 +78,7 @@ cause_of known [] item = first_of_causes (refused known item false)
     (is_unknown known item) false false
 cause_of known (symbol ∷ stack) item =
     first_of_causes (refused known item (wants_role symbol)) (is_unknown known item)
-        (is_prefix_iri symbol item) (is_over symbol item)
+    (is_prefix_iri symbol item) (is_over symbol item)
 
 -- ---- a machine that keeps the cause
 

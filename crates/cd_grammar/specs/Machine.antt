@@ -88,8 +88,10 @@ abbrev pub head_taken : Bool → Known → Frame → List Symbol → List ℕ �
 head_taken true known frame stack i =
     Some (with_class known i, Inside (with_head frame (number known.classes i)) ∷ stack)
 head_taken false known frame stack i =
-    taken_if (is_role i) (with_role known i,
-    Inside (with_head frame (number known.roles i)) ∷ stack)
+    taken_if (is_role i) (
+      with_role known i,
+      Inside (with_head frame (number known.roles i)) ∷ stack,
+    )
 
 -- a named class
 abbrev pub part_taken : Known → Frame → List Symbol → List ℕ → Option State

@@ -35,7 +35,7 @@ IsLast (Some Memory) n placed = ⊥
 abbrev pub TakesText : Parser → List ℕ → Type 0
 TakesText parser fed =
     (taken : List Token) × (ending : Ending) × HasItems fed taken ending
-        × (standing parser ≡ fold stand_after started (all_of taken ending))
+    × (standing parser ≡ fold stand_after started (all_of taken ending))
 
 -- the reader was fed n bytes, and a source lost these
 abbrev pub IsFedFrom : Option (List ℕ) → Option (List ℕ) → Reader → ℕ → Type 0

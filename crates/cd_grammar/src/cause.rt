@@ -9,7 +9,9 @@ ghost use Rattle.cd_syntax.specs.declared.words.Form.{Form};
 use crate::symbol::{Frame, Symbol};
 use cd_base::Memory;
 use cd_names::ExpandFault;
-use cd_syntax::{AxiomForm, Cause, Form, Item, Keyword, Known, has_class_head, wants_head, wants_part};
+use cd_syntax::{
+    AxiomForm, Cause, Form, Item, Keyword, Known, has_class_head, wants_head, wants_part,
+};
 use std::alloc::Global;
 
 /// Whether behind these operands a role may stand.

@@ -143,9 +143,6 @@ fn document_of(alloc: Global, known: Known) -> Result<Document, Memory>
     requires { IsSound known }
     ensures { IfOk result (λ document. IsOf document known) }
 {
-    // Names count in a `u32`, so they are as few as a document may have.
-    let _class_count = known.classes.len();
-    let _role_count = known.roles.len();
     Ok(Document {
         axioms: known.axioms,
         classes: Seq::of(known.classes.into_iris(alloc)?),

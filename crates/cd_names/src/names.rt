@@ -68,7 +68,8 @@ impl Names {
 
     /// The IRIs in the order of their numbers. Linear in how many there are.
     pub fn into_iris(self, alloc: Global) -> Result<Vec<Seq<u8>>, Memory>
-        ensures { IfOk result (λ iris. iris.items ≡ self) }
+        ensures value { IfOk result (λ iris. iris.items ≡ self) }
+        ensures few { length self < 2 ^ 32 }
     {
         let Names { iris } = self;
         let iris = iris.into_iter().map(|iri| Seq::of(iri)).collect(alloc)?;

@@ -10,5 +10,6 @@ invariant-turns l = record {
   continues : Continues l.initial.store l.store;
 }
 
+-- each turn takes one more clause up, and there are fewer than 2 ^ 64
 abbrev pub decreases-turns : goal.decreases-turns
 decreases-turns l = 2 ^ 64 - (length l.store.clauses - length l.waiting)
