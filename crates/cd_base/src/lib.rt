@@ -2,6 +2,8 @@
 //! and the one error that any call may give, want of memory.
 //!
 //! It stands at the bottom, so nothing here knows of documents, interpretations or bytes.
+//!
+//! Its tests are in `cd_calls`.
 #![tactic(auto)]
 
 mod answer;
@@ -16,8 +18,6 @@ mod named;
 mod normal;
 mod role;
 mod seq;
-#[cfg(test)]
-mod tests;
 
 pub use answer::Answer;
 pub use atom::Atom;

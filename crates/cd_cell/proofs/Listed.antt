@@ -1,6 +1,6 @@
 -- What contexts owe, listed context by context.
 use Rattle.std.proofs.Common.{◌≡◌, ℕ, List, [], ◌∷◌, ◌++◌, refl, sym, ap, subst, ◌∙◌, inl, inr, append_assoc}
-use Rattle.std.proofs.lemmas.List.{append-nil, map-append}
+use Rattle.std.proofs.lemmas.List.{map-append}
 use Rattle.cd_base.proofs.Members.{member_left, member_right, member_cases, member_map}
 use Rattle.cd_base.specs.Lists.{OneOf, HasNoRepeats}
 use Rattle.cd_base.specs.declared.normal.Normal.{Normal}
@@ -47,13 +47,6 @@ pub record IsListing (n : Normal) (contexts rest : List (List ℕ × State)) (no
   pub is : contexts ≡ done ++ rest
   pub owed : AreOwed n done notes
 
-pub listing_begins : (n : Normal) (contexts rest : List (List ℕ × State)) (notes : List Note) → rest ≡ contexts → notes ≡ [] → IsListing n contexts rest notes
-listing_begins n contexts rest notes e z = record {
-  done = [];
-  is = sym e;
-  owed = subst (AreOwed n []) (sym z) (record { only = λ note m. absurd m; once = tt; every = λ h s m note o. absurd m });
-}
-
 pub listing_goes : (n : Normal) (contexts rest : List (List ℕ × State)) (k : List ℕ) (s : State) (others : List (List ℕ × State)) (notes more : List Note) (Done : Type 0) → Done
     → AreOwn contexts → HasNoRepeats (keys_of contexts) → rest ≡ (k, s) ∷ others → IsListing n contexts rest notes → ListsOwed n Done s notes more → IsListing n contexts others more
 listing_goes n contexts rest k s others notes more Done did own apart e g a =
@@ -84,7 +77,3 @@ listing_goes n contexts rest k s others notes more Done did own apart e g a =
         ];
       });
     }
-
-pub listing_ends : (n : Normal) (contexts rest : List (List ℕ × State)) (notes : List Note) → rest ≡ [] → IsListing n contexts rest notes → AreOwed n contexts notes
-listing_ends n contexts rest notes e g =
-    subst (λ (l : List (List ℕ × State)). AreOwed n l notes) (sym (g.is ∙ ap (λ (l : List (List ℕ × State)). g.done ++ l) e ∙ append-nil g.done)) g.owed

@@ -19,9 +19,6 @@ pub record IsSending (cells : ℕ) (notes : List Note) (out : List (ℕ × Note)
   pub is : notes ≡ done ++ rest
   pub follows : new_out ≡ out ++ map (addressed cells) done
 
-pub sending_begins : (cells : ℕ) (notes rest : List Note) (out : List (ℕ × Note)) → rest ≡ notes → IsSending cells notes out rest out
-sending_begins cells notes rest out e = record { done = []; is = sym e; follows = sym (append-nil out) }
-
 pub sending_goes : (cells : ℕ) (notes rest others : List Note) (out between new_out : List (ℕ × Note)) (p : ℕ) (note : Note) → rest ≡ note ∷ others → p ≡ place_of cells note.key
     → new_out ≡ between ++ (p, note) ∷ [] → IsSending cells notes out rest between → IsSending cells notes out others new_out
 sending_goes cells notes rest others out between new_out p note e place put g = record {

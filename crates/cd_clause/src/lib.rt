@@ -3,13 +3,13 @@
 //! A context has a key, a set of literals, and clauses, sets of elements. The rules (specs/Rules.antt) are one relation between premises
 //! and conclusion, whatever the premises come from; derivations, stores and contexts are all stated by it. Nothing here speaks of
 //! interpretations: what clauses mean, and that what is derived is true, is in `cd_model`.
+//!
+//! Its tests are in `cd_calls`.
 #![tactic(auto)]
 
 mod clause;
 mod elem;
 mod eligibility;
-#[cfg(test)]
-mod tests;
 mod walk;
 
 pub use clause::Clause;

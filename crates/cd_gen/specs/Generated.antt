@@ -87,4 +87,4 @@ level_axioms level = class_axioms level ++ edge_axioms level
 abbrev pub generated_axioms : ℕ → List Axiom
 generated_axioms n =
     SubRole role_r role_s ∷ SubClass (SomeOf role_s (Name class_d)) (Name class_e)
-        ∷ flat_map level_axioms (range_with_len 0 n)
+    ∷ flat_map level_axioms (range_with_len 0 n)

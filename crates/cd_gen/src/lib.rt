@@ -8,12 +8,12 @@
 //!
 //! - `document` puts the parts together. What they are is said in `specs/Generated.antt`.
 //! - `names` makes the IRIs, and `axioms` the axioms.
+//!
+//! Its tests are in `cd_calls`.
 #![tactic(auto)]
 
 mod axioms;
 mod document;
 mod names;
-#[cfg(test)]
-mod tests;
 
 pub use document::make;

@@ -14,14 +14,14 @@
 //!
 //! What the outside does no contract can say: where a source or a sink does not tell its bytes, its clauses hold of nothing but
 //! counts and flags. `specs/Streams.antt` and `specs/Causes.antt` have the words that the contracts use.
+//!
+//! Its tests are in `cd_calls`.
 #![tactic(auto)]
 
 mod adapters;
 mod memory_sink;
 mod memory_source;
 mod streams;
-#[cfg(test)]
-mod tests;
 mod writing;
 
 pub use adapters::{ReadSource, WriteSink};

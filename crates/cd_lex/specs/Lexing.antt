@@ -45,7 +45,7 @@ IsBegunAt other from n = from ≡ n
 abbrev pub IsAccount : Bool → Option LexFault → State → List ℕ → List Piece → List ℕ → Type 0
 IsAccount false None s fed pieces rest =
     IsCutAhead fed pieces rest × (s.place ≡ length fed)
-        × IsBegunAt s.mode s.from (length_of pieces) × IsUnfinished s.mode s rest
+    × IsBegunAt s.mode s.from (length_of pieces) × IsUnfinished s.mode s rest
 IsAccount false (Some (BadByte n)) s fed pieces rest =
     IsCutAhead fed pieces rest × (n ≡ length_of pieces) × ((more : List ℕ) → IsBad (rest ++ more))
 IsAccount true None s fed pieces rest = IsCut fed pieces rest × (rest ≡ [])
@@ -100,4 +100,4 @@ IsTaken (Some token) before after fed taken =
     IsLexing after fed (taken ++ token ∷ []) × AreFirst before.closed fed (taken ++ token ∷ [])
 IsTaken None before after fed taken =
     IsLexing after fed taken × AreAll before.closed before.fault fed taken
-        × ((token : Token) → AreFirst before.closed fed (taken ++ token ∷ []) → ⊥)
+    × ((token : Token) → AreFirst before.closed fed (taken ++ token ∷ []) → ⊥)

@@ -30,8 +30,16 @@ pub record State : Type 0 where
   pub fault : Option LexFault
 
 abbrev pub start : State
-start = record { mode = Between; prefix = []; kept = []; from = 0; place = 0; tokens = [];
-    closed = false; fault = None }
+start = record {
+  mode = Between;
+  prefix = [];
+  kept = [];
+  from = 0;
+  place = 0;
+  tokens = [];
+  closed = false;
+  fault = None;
+}
 
 -- what no move changes, not even one that runs out of memory
 abbrev pub IsBeside : State → State → Type 0
@@ -57,8 +65,10 @@ without_prefix s = record s { prefix = [] }
 
 -- the unfinished token has ended and is this
 abbrev pub end : Kind → State → State
-end kind s = record s { mode = Between;
-    tokens = s.tokens ++ record { kind = kind; place = s.from } ∷ [] }
+end kind s = record s {
+  mode = Between;
+  tokens = s.tokens ++ record { kind = kind; place = s.from } ∷ [];
+}
 
 -- what was begun is the front of no token
 abbrev pub refuse : State → State
@@ -141,7 +151,7 @@ is_empty (b ∷ more) = false
 unfoldable pub take_in_iri : ℕ → State → State
 take_in_iri b s =
     if is_iri_byte b then keep b
-        s else (if is_empty s.kept then refuse s else (if b == 62 then end_iri s else refuse s))
+    s else (if is_empty s.kept then refuse s else (if b == 62 then end_iri s else refuse s))
 
 unfoldable pub take_in_text : ℕ → State → State
 take_in_text b s = if b == 34 then end Quoted s else (if b == 92 then turn AfterBackslash s else s)

@@ -11,6 +11,8 @@
 //! `machine` has the state: what the bytes behind the last ended piece are the front of, and what is kept of them. Each byte is one
 //! step, so no byte is looked at twice, however the text is cut. `specs/Machine.antt` has the same steps as functions, and `proofs/`
 //! shows that they find the tokens of the relation. `lexer` has the calls.
+//!
+//! Its tests are in `cd_calls`.
 #![tactic(auto)]
 
 mod bytes;
@@ -22,6 +24,3 @@ mod token;
 pub use laws::{items_are_unique, worked_tokens};
 pub use machine::Lexer;
 pub use token::{Kind, LexFault, Token};
-
-#[cfg(test)]
-mod tests;

@@ -6,6 +6,8 @@
 //!
 //! Of one finite interpretation the definitions can be run: `is_in` and `holds` decide membership and truth in it, and are proved to
 //! answer just what the definitions say.
+//!
+//! Its tests are in `cd_calls`.
 #![tactic(auto)]
 
 mod document;
@@ -24,6 +26,3 @@ pub use laws::{finite_is_enough, finite_is_some, has_one_answer};
 pub use membership::is_in;
 pub use truth::holds;
 pub use worked::{worked_members, worked_texts, worked_truths};
-
-#[cfg(test)]
-mod tests;

@@ -51,10 +51,10 @@ pub fn worked_texts()
         ≡ of_lines (codes "Ontology(" ∷ codes "SubClassOf(<x:A> <x:B>)"
         ∷ codes "SubClassOf(<x:B> <http://www.w3.org/2002/07/owl#Thing>)" ∷ codes ")" ∷ []) }
     ensures chain { text up_to_c chain
-    ≡ of_lines (codes "Ontology(" ∷ codes "SubClassOf(<x:A> <x:B>)"
+        ≡ of_lines (codes "Ontology(" ∷ codes "SubClassOf(<x:A> <x:B>)"
         ∷ codes "SubClassOf(<x:B> <x:C>)" ∷ codes "SubClassOf(<x:C> <http://www.w3.org/2002/07/owl#Thing>)" ∷ codes ")" ∷ []) }
     ensures equivalent { text up_to_b equivalent
-    ≡ of_lines (codes "Ontology(" ∷ codes "EquivalentClasses(<x:A> <x:B>)"
+        ≡ of_lines (codes "Ontology(" ∷ codes "EquivalentClasses(<x:A> <x:B>)"
         ∷ codes "SubClassOf(<x:A> <http://www.w3.org/2002/07/owl#Thing>)" ∷ codes ")" ∷ []) }
     ensures inconsistent { text up_to_b inconsistent ≡ of_lines (codes "Ontology("
         ∷ codes "EquivalentClasses(<http://www.w3.org/2002/07/owl#Nothing> <http://www.w3.org/2002/07/owl#Thing> <x:A> <x:B>)"

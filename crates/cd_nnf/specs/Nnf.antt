@@ -17,11 +17,15 @@ pub record Forms : Type 0 where
 abbrev pub forms_by_parts : Expr-F Forms → Forms
 forms_by_parts (Expr-F.Name c) = record { plain = Name c; negated = Minus (Name c) }
 forms_by_parts (Expr-F.Meet parts) =
-    record { plain = Meet (map (λ part. part.plain) parts);
-    negated = Join (map (λ part. part.negated) parts) }
+    record {
+      plain = Meet (map (λ part. part.plain) parts);
+      negated = Join (map (λ part. part.negated) parts);
+    }
 forms_by_parts (Expr-F.Join parts) =
-    record { plain = Join (map (λ part. part.plain) parts);
-    negated = Meet (map (λ part. part.negated) parts) }
+    record {
+      plain = Join (map (λ part. part.plain) parts);
+      negated = Meet (map (λ part. part.negated) parts);
+    }
 forms_by_parts (Expr-F.Minus part) = record { plain = part.negated; negated = part.plain }
 forms_by_parts (Expr-F.SomeOf r part) =
     record { plain = SomeOf r part.plain; negated = AllOf r part.negated }

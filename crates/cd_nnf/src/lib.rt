@@ -8,12 +8,12 @@
 //! `specs/NnfTable.antt` has them with a line for each form, by which crates above reason. That they mean the same is said by the
 //! laws: the normal form has the members of the expression, that of the complement has the other elements, and in both `Minus` stands
 //! before names alone.
+//!
+//! Its tests are in `cd_calls`.
 #![tactic(auto)]
 
 mod laws;
 mod normal_forms;
-#[cfg(test)]
-mod tests;
 
 pub use laws::{nnf_has_names_under_minus, nnf_has_the_members, nnf_not_has_the_others};
 pub use normal_forms::{nnf, nnf_not};

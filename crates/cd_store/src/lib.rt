@@ -9,12 +9,12 @@
 //!
 //! Whoever closes the clauses under rules asks the same lists which clauses have an atom (`Store::push_with_atom`) or an existential
 //! (`Store::push_with_existential`).
+//!
+//! Its tests are in `cd_calls`.
 #![tactic(auto)]
 
 mod filing;
 mod store;
 mod subsets;
-#[cfg(test)]
-mod tests;
 
 pub use store::{Added, Store};

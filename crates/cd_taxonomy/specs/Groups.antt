@@ -10,8 +10,10 @@ group_number rs r = position_or_len (λ s. s == r) rs
 
 module _ (names : List (List ℕ)) (below : ℕ → ℕ → Bool) where
   abbrev pub group_at : ℕ → Group
-  group_at r = record { members = members names below r;
-      parents = map (group_number (representatives names below)) (parents names below r) }
+  group_at r = record {
+    members = members names below r;
+    parents = map (group_number (representatives names below)) (parents names below r);
+  }
 
   -- the groups in the order of their representatives
   abbrev pub groups : List Group

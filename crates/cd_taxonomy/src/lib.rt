@@ -18,6 +18,8 @@
 //!
 //! Nothing here asks where the answers come from: they only have to list classes of the document, and to give a relation that is
 //! reflexive and transitive, with owl:Thing above all classes and owl:Nothing below all.
+//!
+//! Its tests are in `cd_calls`.
 #![tactic(auto)]
 
 mod counts;
@@ -28,8 +30,6 @@ mod order;
 mod parents;
 mod printing;
 mod representatives;
-#[cfg(test)]
-mod tests;
 mod totals;
 
 pub use groups::{Group, Summary, Taxonomy};

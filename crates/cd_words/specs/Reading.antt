@@ -25,8 +25,14 @@ name_and_value word =
     then Some (before_first (λ b. b == 61) word, after_first (λ b. b == 61) word) else None
 
 abbrev pub nothing_heard : Heard
-nothing_heard = record { workers = None; cells = None; max_contexts = None; max_facts = None;
-    verb = Missing; waiting = None }
+nothing_heard = record {
+  workers = None;
+  cells = None;
+  max_contexts = None;
+  max_facts = None;
+  verb = Missing;
+  waiting = None;
+}
 
 -- the number of an option
 abbrev pub number_heard : Heard → Setting → Option ℕ

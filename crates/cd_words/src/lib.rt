@@ -11,6 +11,8 @@
 //!
 //! That the words are of the form exactly where `heard` takes them, and that `clap` takes those and finds in them what was heard, is
 //! proved on the contract of `ask`.
+//!
+//! Its tests are in `cd_calls`.
 #![tactic(auto)]
 
 mod command_line;
@@ -19,8 +21,6 @@ mod heard;
 mod numeral;
 mod request;
 mod setting;
-#[cfg(test)]
-mod tests;
 
 pub use form::ask;
 pub use request::{Ask, AskFault, Command};

@@ -1,8 +1,8 @@
 //! Small stores. Expected values are written by hand.
 //! What has many parts is let go of by `drop`, which the prover takes as one step.
-use crate::{Added, Store};
 use cd_base::{Atom, Key, Role};
 use cd_clause::{Clause, Elem};
+use cd_store::{Added, Store};
 use std::alloc::Global;
 use std::process::Abort;
 

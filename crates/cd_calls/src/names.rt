@@ -1,4 +1,4 @@
-use crate::{DeclareFault, ExpandFault, Names, Prefixes};
+use cd_names::{DeclareFault, ExpandFault, Names, Prefixes};
 use std::test::Fail;
 
 #[test]

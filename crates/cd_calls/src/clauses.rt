@@ -1,6 +1,6 @@
 //! Small clauses. Expected values are written by hand.
-use crate::{Clause, Elem, eligible};
 use cd_base::{Atom, Key, Normal, Role, Seq};
+use cd_clause::{Clause, Elem, eligible};
 use std::alloc::Global;
 use std::process::Abort;
 

@@ -1,6 +1,6 @@
 //! Normal forms worked by hand.
-use crate::{nnf, nnf_not};
 use cd_meaning::Expr;
+use cd_nnf::{nnf, nnf_not};
 use sqlite_items::{Boxed, Items};
 use std::alloc::Global;
 use std::test::Fail;

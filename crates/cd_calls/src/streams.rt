@@ -1,4 +1,4 @@
-use crate::{
+use cd_io::{
     Failed, MemSink, MemSource, ReadSource, Sink, Source, WriteFault, WriteSink, write_all,
 };
 use std::fmt::Debug;

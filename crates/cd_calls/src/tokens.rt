@@ -1,7 +1,7 @@
 //! Worked texts, in pieces and whole.
 ghost use Rattle.std.specs.Prelude.{◌≡◌};
 
-use crate::{Kind, LexFault, Lexer, Token};
+use cd_lex::{Kind, LexFault, Lexer, Token};
 use std::alloc::{AllocError, Global};
 use std::test::Fail;
 

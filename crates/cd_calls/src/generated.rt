@@ -1,8 +1,8 @@
 //! Generated documents against what is written out by hand.
 ghost use Rattle.std.specs.Prelude.{◌≤◌};
 
-use crate::make;
 use cd_base::Seq;
+use cd_gen::make;
 use cd_meaning::Axiom;
 use std::alloc::Global;
 use std::test::Fail;

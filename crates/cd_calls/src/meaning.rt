@@ -2,8 +2,8 @@
 //! What has many parts is let go of by `drop`, which the prover takes as one step.
 ghost use Rattle.std.specs.Prelude.{◌≡◌};
 
-use crate::{Axiom, Edge, Expr, Interpretation, Member, NOTHING, THING, holds, is_in};
 use cd_base::Seq;
+use cd_meaning::{Axiom, Edge, Expr, Interpretation, Member, NOTHING, THING, holds, is_in};
 use sqlite_items::{Boxed, Items};
 use std::alloc::Global;
 use std::process::Abort;

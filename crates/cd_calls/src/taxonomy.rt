@@ -4,9 +4,9 @@ ghost use Rattle.std.specs.Prelude.{◌≡◌, [], ◌∷◌, length, codes, All
 ghost use Rattle.cd_meaning.specs.Iri.{thing, nothing};
 ghost use Rattle.cd_taxonomy.specs.Relation.{relation, HasClassesBelow, IsSubsumption};
 
-use crate::{summary, summary_text, taxonomy, text};
 use cd_base::{Answer, Atom, Seq};
 use cd_meaning::Document;
+use cd_taxonomy::{summary, summary_text, taxonomy, text};
 use std::alloc::Global;
 use std::process::Abort;
 

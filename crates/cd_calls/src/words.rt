@@ -1,7 +1,7 @@
 //! Command lines. What they ask for was written by hand.
 //! What has many parts is let go of by `drop`, which the prover takes as one step.
-use crate::{Ask, AskFault, Command, ask};
 use cd_base::Limits;
+use cd_words::{Ask, AskFault, Command, ask};
 use std::alloc::Global;
 use std::process::Abort;
 
