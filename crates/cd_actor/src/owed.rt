@@ -26,7 +26,7 @@ where
     ensures covered { OnOk result
         (IsOwedCovered A.meaning cells.now (sent pending.old pending.new)) }
 {
-    'cells: for cell in cells {
+    for cell in cells {
         let mut owed = Outbox::new(alloc);
         cell.list_owed(alloc, &mut owed)?;
         put_not_had(cells, owed, pending)?;

@@ -9,7 +9,7 @@ pub fn sum_contexts<A: Actor>(cells: &[A]) -> u64
     ensures { result ≡ total A.meaning.contexts cells.now }
 {
     let mut sum: u64 = 0;
-    'cells: for cell in cells {
+    for cell in cells {
         sum = sum.saturating_add(cell.contexts());
     }
     sum
@@ -20,7 +20,7 @@ pub fn sum_facts<A: Actor>(cells: &[A]) -> u64
     ensures { result ≡ total A.meaning.facts cells.now }
 {
     let mut sum: u64 = 0;
-    'cells: for cell in cells {
+    for cell in cells {
         sum = sum.saturating_add(cell.facts());
     }
     sum

@@ -23,7 +23,7 @@ runs_begun g cells start more pending k s l c e = record {
 pub begun : {A M : Type 0} (g : Meaning A M) (cells slice : List A) (start first rest pending : List (ℕ × M)) → AreCells g cells
     → AreAllLawful g cells start → first ++ rest ≡ start → length rest ≡ 0 → pending ≡ first ++ sent first pending → slice ≡ cells
     → IsOwedInTurn g slice slice (sent first pending) → AreAllLawful g slice (sent first pending) → IsOwedCovered g slice (sent first pending)
-    → Runs g cells pending × IsBegun g cells start (cells, pending, false)
+    → Runs g cells pending × IsBegun g cells start (record { cells = cells; pending = pending; failed = false })
 begun g cells slice start first rest pending k s e n f q o l c =
     let first_is : first ≡ start = sym (append-nil first) ∙ ap (λ r. first ++ r) (sym (nil_from_length rest n)) ∙ e in
     let follows : pending ≡ start ++ sent first pending = f ∙ ap (λ r. r ++ sent first pending) first_is in

@@ -1,7 +1,13 @@
--- What a core keeps: cells of one family, and the messages that pend.
+-- What contracts see of a core, and what a core keeps: cells of one family, and the messages that pend.
 use Rattle.std.specs.Prelude.{◌≡◌, ℕ, false, Bool, List}
 use Rattle.cd_actor.specs.Meaning.{Meaning}
 use Rattle.cd_actor.specs.Cells.{AreCells, AreAllLawful, HadOrPends, IsOwedCovered, total}
+
+-- the cells, the messages that pend, and whether a delivery has wanted for memory
+pub record CoreState (A M : Type 0) : Type 0 where
+  pub cells : List A
+  pub pending : List (ℕ × M)
+  pub failed : Bool
 
 -- each message that pends is lawful for its cell, and each that is owed is had or pends
 pub record Runs {A M : Type 0} (g : Meaning A M) (cells : List A)

@@ -1,7 +1,8 @@
 -- What a step does.
-use Rattle.std.specs.Prelude.{◌≡◌, ℕ, ◌%◌, ◌++◌, slice_set, remove, Bool, List, [], length}
+use Rattle.std.specs.Prelude.{◌≡◌, ℕ, ◌%◌, ◌++◌, slice_set, remove, List, [], length}
 use Rattle.cd_actor.specs.Meaning.{Meaning, Delivery}
 use Rattle.cd_actor.specs.Cells.{At}
+use Rattle.cd_core.specs.State.{CoreState}
 use Rattle.cd_core.specs.declared.stops.Step.{Step}
 use Rattle.cd_core.specs.declared.stops.Step.TheVariants.{Delivered, Empty}
 
@@ -24,7 +25,8 @@ pub record IsStep {A M : Type 0} (g : Meaning A M) (choice : ℕ) (cells : List 
   pub joins : pending_new ≡ remove pending (choice % length pending) ++ out
 
 -- a delivery, or nothing where nothing pends
-abbrev pub IsStepOrEmpty : {A M : Type 0} → Meaning A M → ℕ → List A × List (ℕ × M) × Bool
-    → List A × List (ℕ × M) × Bool → Step → Type 0
-IsStepOrEmpty g choice old new Delivered = IsStep g choice old.0 old.1 new.0 new.1
-IsStepOrEmpty g choice old new Empty = (old.1 ≡ []) × (new ≡ old)
+abbrev pub IsStepOrEmpty : {A M : Type 0} → Meaning A M → ℕ → CoreState A M → CoreState A M
+    → Step → Type 0
+IsStepOrEmpty g choice old new Delivered =
+    IsStep g choice old.cells old.pending new.cells new.pending
+IsStepOrEmpty g choice old new Empty = (old.pending ≡ []) × (new ≡ old)

@@ -1,8 +1,8 @@
 //! Cores: cells and the messages that pend.
-ghost use Rattle.std.specs.Prelude.{◌≡◌, ℕ, List, Bool, true, false, length, IfOk, IfErr, OnOk, OnErr};
+ghost use Rattle.std.specs.Prelude.{◌≡◌, true, false, length, IfOk, IfErr, OnOk, OnErr};
 ghost use Rattle.cd_actor.specs.Cells.{AreCells, AreAllLawful};
 ghost use Rattle.cd_actor.specs.Settled.{KeepsFamily};
-ghost use Rattle.cd_core.specs.State.{Runs, KeepsAll, IsSound};
+ghost use Rattle.cd_core.specs.State.{Runs, KeepsAll};
 ghost use Rattle.cd_core.specs.Begin.{IsBegun};
 ghost use Rattle.cd_core.specs.Steps.{IsStepOrEmpty};
 ghost use Rattle.cd_core.specs.Ends.{IsEnd, IsStop, StopsAtOnce};
@@ -26,9 +26,11 @@ pub struct Core<A: Actor> {
 }
 
 impl<A: Actor> Model for Core<A> {
-    ghost Value = { List A × List (ℕ × A.Msg) × Bool };
+    ghost use Rattle.cd_core.specs.State.{CoreState, IsSound};
 
-    ghost view = { λ c. (c.cells.items, c.pending, c.failed) };
+    ghost Value = { CoreState A A.Msg };
+
+    ghost view = { λ c. record { cells = c.cells.items; pending = c.pending; failed = c.failed } };
 
     ghost invariant = { λ c. IsSound A.meaning c.cells.items c.pending c.contexts c.facts
         c.failed };
@@ -48,10 +50,10 @@ impl<A: Actor> Core<A> {
         requires cells { AreCells A.meaning cells.items }
         requires start { AreAllLawful A.meaning cells.items start.items }
         ensures begun { IfOk result (λ core. IsBegun A.meaning cells.items start.items core) }
-        ensures sound { IfOk result (λ core. Runs A.meaning core.0 core.1) }
+        ensures sound { IfOk result (λ core. Runs A.meaning core.cells core.pending) }
     {
         let mut pending = Outbox::new(alloc);
-        'start: for (cell, message) in start {
+        for (cell, message) in start {
             pending.put(cell, message)?;
         }
         put_owed(alloc, &cells, &mut pending)?;
@@ -68,7 +70,7 @@ impl<A: Actor> Core<A> {
 
     /// How many messages pend. Constant time.
     pub fn pending(&self) -> usize
-        ensures { result ≡ length self.now.1 }
+        ensures { result ≡ length self.now.pending }
     {
         self.pending.len()
     }
@@ -81,12 +83,12 @@ impl<A: Actor> Core<A> {
         A::Msg: Drop,
         ensures ok { IfOk result (λ step. IsStepOrEmpty A.meaning choice self.old self.new step) }
         ensures keeps { OnOk result
-            (KeepsAll A.meaning self.old.0 self.old.1 self.new.0 self.new.1) }
-        ensures family { OnOk result (KeepsFamily A.meaning self.old.0 self.new.0) }
-        ensures sound { OnOk result (Runs A.meaning self.new.0 self.new.1) }
-        ensures stands { OnOk result (self.new.2 ≡ false) }
-        ensures failed { OnErr result (self.new.2 ≡ true) }
-        ensures spent { self.old.2 ≡ true → OnOk result ⊥ }
+            (KeepsAll A.meaning self.old.cells self.old.pending self.new.cells self.new.pending) }
+        ensures family { OnOk result (KeepsFamily A.meaning self.old.cells self.new.cells) }
+        ensures sound { OnOk result (Runs A.meaning self.new.cells self.new.pending) }
+        ensures stands { OnOk result (self.new.failed ≡ false) }
+        ensures failed { OnErr result (self.new.failed ≡ true) }
+        ensures spent { self.old.failed ≡ true → OnOk result ⊥ }
     {
         if self.failed {
             return Err(Memory);
@@ -124,14 +126,15 @@ impl<A: Actor> Core<A> {
         A: Drop,
         A::Msg: Drop,
         ensures ok { IfOk result (λ cells.
-            IsEnd A.meaning self.0 self.1 limits.now.max_contexts limits.now.max_facts
+            IsEnd A.meaning self.cells self.pending limits.now.max_contexts limits.now.max_facts
             cells.items) }
         ensures stop { IfErr result
-            (λ stop. IsStop A.meaning self.0 limits.now.max_contexts limits.now.max_facts stop) }
-        ensures at_once { IfErr result
-            (λ stop. StopsAtOnce A.meaning self.0 limits.now.max_contexts limits.now.max_facts
+            (λ stop. IsStop A.meaning self.cells limits.now.max_contexts limits.now.max_facts
             stop) }
-        ensures spent { self.2 ≡ true → IfOk result (λ _. ⊥) }
+        ensures at_once { IfErr result
+            (λ stop. StopsAtOnce A.meaning self.cells limits.now.max_contexts limits.now.max_facts
+            stop) }
+        ensures spent { self.failed ≡ true → IfOk result (λ _. ⊥) }
     {
         let Core {
             mut cells,

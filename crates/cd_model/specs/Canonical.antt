@@ -62,8 +62,8 @@ elems_at_most n least [] fs = true
 elems_at_most n least (e ∷ es) [] = false
 elems_at_most n least (e ∷ es) (f ∷ fs) =
     cond (is_at_most (total_rank n least e) (total_rank n least f))
-        (cond (is_at_most (total_rank n least f) (total_rank n least e))
-        (elems_at_most n least es fs) true) false
+    (cond (is_at_most (total_rank n least f) (total_rank n least e))
+    (elems_at_most n least es fs) true) false
 
 -- clauses are compared as lists of their elements from the greatest down
 abbrev pub clause_at_most : Normal → ℕ → List Elem → List Elem → Bool
@@ -143,7 +143,7 @@ edges_by below roles all es x (Exist s k) =
     cond (is_maximal s k es)
     (collect (λ (y : Element). cond (same_numbers k y.key)
     (collect (λ (r : ℕ). cond (below s r) (record { role = r; source = x; target = y.number }
-        ∷ []) []) (numbers_below roles))
+    ∷ []) []) (numbers_below roles))
     []) all)
     []
 
@@ -194,8 +194,13 @@ pub record IsCounter (n : Normal) (i : Interpretation) (keys : List (List ℕ))
     (live : List ℕ → List (List Elem)) (b : ℕ) : Type 0 where
   pub holds : IsNormalModel n i
   pub element : (a : ℕ) → Open keys live a
-      → record { x : ℕ; below : x < i.size; isin : IsIn i a x; only_single : is_named n b ≡ true
-      → IsIn i b x → IsSingle (live (plain a ∷ [])) b }
+      → record {
+        x : ℕ;
+        below : x < i.size;
+        isin : IsIn i a x;
+        only_single : is_named n b ≡ true
+            → IsIn i b x → IsSingle (live (plain a ∷ [])) b;
+      }
 
 -- COMPLETENESS: where some {a} is without the empty clause, the canonical interpretation of saturated contexts is a finite model of the
 -- normal axioms against each named b that is no live clause of its own in {a}

@@ -10,7 +10,11 @@ use std::alloc::Global;
 impl Maker {
     /// What is in every atom on the left is in some atom on the right. Constant time, but for growing the list; so are the others below
     /// that add one axiom.
-    pub(crate) fn add_implication(&mut self, left: Vec<Atom>, right: Vec<Atom>) -> Result<(), Memory>
+    pub(crate) fn add_implication(
+        &mut self,
+        left: Vec<Atom>,
+        right: Vec<Atom>,
+    ) -> Result<(), Memory>
         ensures next { self.new.next ≡ self.old.next }
         ensures few { rows self.new ≤ rows self.old + 1 }
         ensures adds { IfOk result (λ done.

@@ -30,7 +30,7 @@ AreAtHand n Has atom atoms = (b : ℕ) → OneOf b atoms ↔ IsAtHand n Has atom
 abbrev pub AreFiledWith : List Conj → List (List ℕ) → ℕ → List ℕ → ℕ → List ℕ → Type 0
 AreFiledWith axioms filed number atoms atom numbers =
     (k : ℕ) → OneOf k numbers ↔ ((b : ℕ) × OneOf b atoms × OneOf k (filed_at filed number b)
-        × OneOf atom (left_of axioms k))
+    × OneOf atom (left_of axioms k))
 
 -- how many axioms are filed under these atoms, each atom counted as often as it stands there
 abbrev pub filed_count : List (List ℕ) → ℕ → List ℕ → ℕ

@@ -40,7 +40,7 @@ IsWithoutOne a left taken = (before : List ℕ) × (after : List ℕ) × (left �
 abbrev pub IsConBy : Normal → (List Elem → Type 0) → Conj → ℕ → List Elem → List Elem → Type 0
 IsConBy n Has x a others d =
     (taken : List ℕ) × IsWithoutOne a x.left taken
-        × ((m : List Elem) × Rests n Has taken m × SameSet d ((others ++ m) ++ map Plain x.right))
+    × ((m : List Elem) × Rests n Has taken m × SameSet d ((others ++ m) ++ map Plain x.right))
 
 -- Con, for atom a by any axiom
 abbrev pub IsCon : Normal → (List Elem → Type 0) → ℕ → List Elem → List Elem → Type 0
@@ -50,8 +50,8 @@ IsCon n Has a others d = (x : Conj) × OneOf x n.n1 × IsConBy n Has x a others 
 abbrev pub IsAllOfAtom : Normal → (List Elem → Type 0) → ℕ → List Elem → List Elem → Type 0
 IsAllOfAtom n Has a others d =
     (t : Triple) × OneOf t n.n4 × (t.atom ≡ a)
-        × ((c : List Elem) × Has c × ((r : ℕ) × (k : List ℕ) × Eligible n (Exist r k) c
-        × Under n.n5 r t.role
+    × ((c : List Elem) × Has c × ((r : ℕ) × (k : List ℕ) × Eligible n (Exist r k) c
+    × Under n.n5 r t.role
     × SameSet d (Exist r (key_with (plain t.other) k) ∷ (rest (Exist r k) c ++ others))))
 
 -- All, for an existential with the atoms of clauses that are had
@@ -59,14 +59,14 @@ abbrev pub IsAllOfExist : Normal → (List Elem → Type 0) → ℕ → List ℕ
     → Type 0
 IsAllOfExist n Has r k others d =
     (t : Triple) × OneOf t n.n4 × Under n.n5 r t.role
-        × ((b : List Elem) × Has b × Eligible n (Plain t.atom) b
+    × ((b : List Elem) × Has b × Eligible n (Plain t.atom) b
     × SameSet d (Exist r (key_with (plain t.other) k) ∷ (others ++ rest (Plain t.atom) b)))
 
 -- Back, for an existential and an atom of its key's context
 abbrev pub IsBackOf : Normal → ℕ → List ℕ → ℕ → List Elem → List Elem → Type 0
 IsBackOf n r k a others d =
     (t : Triple) × OneOf t n.n3 × (t.atom ≡ a) × Under n.n5 r t.role
-        × SameSet d (Plain t.other ∷ Exist r (key_with (negated a) k) ∷ others)
+    × SameSet d (Plain t.other ∷ Exist r (key_with (negated a) k) ∷ others)
 
 -- Back, for an existential and these facts
 abbrev pub IsBackFrom : Normal → List BackFact → ℕ → List ℕ → List Elem → List Elem → Type 0

@@ -1,5 +1,5 @@
 -- What a core of one cell keeps from its start message to the cells that it ends with.
-use Rattle.std.proofs.Common.{◌≡◌, ℕ, List, [], ◌∷◌, Bool, true, refl, sym, ap, subst, arith, inl, inr}
+use Rattle.std.proofs.Common.{◌≡◌, ℕ, List, [], ◌∷◌, true, refl, sym, ap, subst, arith, inl, inr}
 use Rattle.cd_base.specs.Keys.{plain, is_named}
 use Rattle.cd_base.specs.Lists.{OneOf}
 use Rattle.cd_base.specs.declared.normal.Normal.{Normal}
@@ -12,7 +12,7 @@ use Rattle.cd_context.specs.declared.facts.Note.{Note}
 use Rattle.cd_cell.specs.Cells.{CellState, IsLawfulNote, meaning}
 use Rattle.cd_cell.proofs.Lookups.{has_from, member_of_state}
 use Rattle.cd_core.specs.Begin.{IsBegun as IsResumed}
-use Rattle.cd_core.specs.State.{KeepsAll}
+use Rattle.cd_core.specs.State.{CoreState, KeepsAll}
 use Rattle.cd_sample.specs.CoreRuns.{IsUnderWay, IsWorked}
 use Rattle.cd_saturation.specs.Saturation.{AreNew, place_for, start_of}
 use Rattle.cd_saturation.proofs.Runs.{of_family}
@@ -34,7 +34,7 @@ module _ (n : Normal) (a : ℕ) (named : is_named n a ≡ true) (cells : List Ce
   ]
 
   -- a core that begins with both is under way
-  pub way_begun : (core : List CellState × List (ℕ × Note) × Bool) → IsResumed meaning cells start core → IsUnderWay a core
+  pub way_begun : (core : CoreState CellState Note) → IsResumed meaning cells start core → IsUnderWay a core
   way_begun core b = record {
     normal = n;
     named = named;
@@ -43,11 +43,11 @@ module _ (n : Normal) (a : ℕ) (named : is_named n a ≡ true) (cells : List Ce
   }
 
 -- what keeps all and the family stays under way
-pub way_kept : (a : ℕ) (old new : List CellState × List (ℕ × Note) × Bool) → IsUnderWay a old → KeepsAll meaning old.0 old.1 new.0 new.1 → KeepsFamily meaning old.0 new.0 → IsUnderWay a new
+pub way_kept : (a : ℕ) (old new : CoreState CellState Note) → IsUnderWay a old → KeepsAll meaning old.cells old.pending new.cells new.pending → KeepsFamily meaning old.cells new.cells → IsUnderWay a new
 way_kept a old new w all family = record { normal = w.normal; named = w.named; family = family (1, w.normal) w.family; start = all (start_of 1 a) w.start }
 
 -- a run from there ends with cells where the class has its context
-pub way_ended : (a : ℕ) (core : List CellState × List (ℕ × Note) × Bool) (after : List CellState) → IsUnderWay a core → IsSettled meaning core.0 core.1 after → IsWorked a after
+pub way_ended : (a : ℕ) (core : CoreState CellState Note) (after : List CellState) → IsUnderWay a core → IsSettled meaning core.cells core.pending after → IsWorked a after
 way_ended a core after w e =
     let h : Had meaning after (start_of 1 a) = e.had (start_of 1 a) w.start in
     let f = has_from h.0.contexts (record { key = plain a ∷ []; fact = Start }) h.2 in

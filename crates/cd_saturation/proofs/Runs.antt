@@ -1,5 +1,5 @@
 -- What a run over new cells with the start messages comes to.
-use Rattle.std.proofs.Common.{◌≡◌, ℕ, zero, suc, ◌+◌, ◌<◌, ◌⊎◌, inl, inr, Bool, List, [], ◌∷◌, ◌++◌, length, refl, sym, ap, subst, ◌∙◌, arith, true}
+use Rattle.std.proofs.Common.{◌≡◌, ℕ, zero, suc, ◌+◌, ◌<◌, ◌⊎◌, inl, inr, List, [], ◌∷◌, ◌++◌, length, refl, sym, ap, subst, ◌∙◌, arith, true}
 use Rattle.cd_base.specs.Keys.{plain, is_named}
 use Rattle.cd_base.specs.Lists.{OneOf}
 use Rattle.cd_base.specs.declared.normal.Normal.{Normal}
@@ -18,6 +18,7 @@ use Rattle.cd_cell.specs.ClosedCells.{AreSettled}
 use Rattle.cd_cell.specs.Counts.{HasContexts, HasFacts}
 use Rattle.cd_cell.proofs.CountedCells.{cell_counts}
 use Rattle.cd_cell.proofs.Lookups.{has_from, member_of_state}
+use Rattle.cd_core.specs.State.{CoreState}
 use Rattle.cd_core.specs.Begin.{IsBegun as IsResumed}
 use Rattle.cd_core.specs.Ends.{IsStop}
 use Rattle.cd_core.specs.declared.stops.Stop.{Stop}
@@ -108,7 +109,7 @@ begun_after count core after pending end_ a m =
     (h.0, h.1, (f.0, member_of_state h.0.contexts (plain a ∷ []) f.0 f.1))
 
 -- a core that began with these cells and messages
-pub core_begun : (n : Normal) (count classes : ℕ) (cells : List CellState) (start : List (ℕ × Note)) (core : List CellState × List (ℕ × Note) × Bool) → AreNew n count cells → AreStarts count classes start → IsResumed meaning cells start core
+pub core_begun : (n : Normal) (count classes : ℕ) (cells : List CellState) (start : List (ℕ × Note)) (core : CoreState CellState Note) → AreNew n count cells → AreStarts count classes start → IsResumed meaning cells start core
     → IsCoreBegun n count classes core
 core_begun n count classes cells start core new starts b = record {
   new = subst (λ cs. AreNew n count cs) (sym b.cells_are) new;

@@ -10,6 +10,7 @@ use Rattle.cd_context.specs.declared.facts.Note.{Note}
 use Rattle.cd_model.specs.Canonical.{IsClosure}
 use Rattle.cd_cell.specs.Cells.{CellState, place_of}
 use Rattle.cd_cell.specs.Subsumers.{HasContext, IsSubsumersIn}
+use Rattle.cd_core.specs.State.{CoreState}
 
 -- a test tells which roles are under which
 abbrev pub HasClosure : Normal → Type 0
@@ -17,8 +18,13 @@ HasClosure n = (below : ℕ → ℕ → Bool) × IsClosure n below
 
 -- a cell without contexts, at that place of so many
 abbrev pub new_cell : Normal → ℕ → ℕ → CellState
-new_cell n count number = record { number = number; cells = count; normal = n; contexts = [];
-    failed = false }
+new_cell n count number = record {
+  number = number;
+  cells = count;
+  normal = n;
+  contexts = [];
+  failed = false;
+}
 
 -- so many cells without contexts, one at each place
 pub record AreNew (n : Normal) (count : ℕ) (cells : List CellState) : Type 0 where
@@ -40,9 +46,9 @@ pub record AreStarts (count classes : ℕ) (start : List (ℕ × Note)) : Type 0
 
 -- a core over new cells, where the messages pend that begin the contexts of the first classes
 pub record IsCoreBegun (n : Normal) (count classes : ℕ)
-    (core : List CellState × List (ℕ × Note) × Bool) : Type 0 where
-  pub new : AreNew n count core.0
-  pub starts : (a : ℕ) → a < classes → OneOf (start_of count a) core.1
+    (core : CoreState CellState Note) : Type 0 where
+  pub new : AreNew n count core.cells
+  pub starts : (a : ℕ) → a < classes → OneOf (start_of count a) core.pending
 
 -- the cell of the class has its context
 abbrev pub IsBegun : ℕ → List CellState → ℕ → Type 0

@@ -56,7 +56,7 @@ fn new_cells<'a>(alloc: Global, index: &'a Index, count: u32) -> Result<Vec<Cell
     ensures { IfOk result (λ cells. AreNew index.now.normal count cells.items) }
 {
     let mut cells = Vec::new(alloc);
-    'cells: for number in 0..count {
+    for number in 0..count {
         cells.push(Cell::new(alloc, number, count, index))?;
     }
     Ok(cells)
@@ -88,7 +88,7 @@ fn start_messages(alloc: Global, classes: u32, count: u32) -> Result<Vec<(u32, N
     ensures { IfOk result (λ start. AreStarts count classes start.items) }
 {
     let mut start = Vec::new(alloc);
-    'classes: for class in 0..classes {
+    for class in 0..classes {
         start.push(start_message(alloc, class, count))?;
     }
     Ok(start)

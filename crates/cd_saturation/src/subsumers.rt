@@ -51,7 +51,7 @@ fn all_answers(
         → IsSubsumersInCells count cells.now a answer) }
 {
     let mut above = Vec::new(alloc);
-    'classes: for class in 0..classes {
+    for class in 0..classes {
         above.push(answer_in(alloc, cells, count, class)?)?;
     }
     Ok(above)

@@ -49,7 +49,7 @@ IsNoRole front kind number = (known : Known) × (role : ℕ) × (wanted : List W
 abbrev pub IsConstruct : List Kind → Next → ℕ → Type 0
 IsConstruct front next number =
     ((w : List ℕ) × (next ≡ Token (Word w)) × (refused_number w ≡ Some number))
-        ⊎ ((kind : Kind) × (next ≡ Token kind) × IsNoRole front kind number)
+    ⊎ ((kind : Kind) × (next ≡ Token kind) × IsNoRole front kind number)
 
 -- a short name whose prefix isn't declared
 abbrev pub IsUnknown : List Kind → Next → Type 0
@@ -70,10 +70,10 @@ IsCause front next Prefix = ((number : ℕ) → IsConstruct front next number �
     × (IsUnknown front next ⊎ IsClash front next)
 IsCause front next Depth =
     ((number : ℕ) → IsConstruct front next number → ⊥) × (IsUnknown front next → ⊥)
-        × (IsClash front next → ⊥) × GoesOn (suc nesting) front next
+    × (IsClash front next → ⊥) × GoesOn (suc nesting) front next
 IsCause front next Syntax =
     ((number : ℕ) → IsConstruct front next number → ⊥) × (IsUnknown front next → ⊥)
-        × (IsClash front next → ⊥) × (GoesOn (suc nesting) front next → ⊥)
+    × (IsClash front next → ⊥) × (GoesOn (suc nesting) front next → ⊥)
 
 -- the front is one of a document's, no document has this behind it, and that is the cause
 pub record IsFault (front : List Kind) (next : Next) (cause : Cause) : Type 0 where

@@ -23,8 +23,8 @@ pub record IsReadAs (text : List ℕ) (axioms : List Axiom)
 abbrev pub nested_complements : ℕ → List ℕ
 nested_complements n =
     codes "Ontology(SubClassOf(<x:A> "
-        ++ iterate (λ (inner : List ℕ). codes "ObjectComplementOf(" ++ inner ++ codes ")") n
-        (codes "<x:B>") ++ codes "))"
+    ++ iterate (λ (inner : List ℕ). codes "ObjectComplementOf(" ++ inner ++ codes ")") n
+    (codes "<x:B>") ++ codes "))"
 
 -- an ontology in which so many annotations stand inside each other
 abbrev pub nested_annotations : ℕ → List ℕ
@@ -43,12 +43,12 @@ pub record WorkedDocuments : Type 0 where
   pub restriction : IsReadAs (codes
       "Ontology(EquivalentClasses(<x:A> ObjectIntersectionOf(<x:B> ObjectSomeValuesFrom(<x:R> <x:A>))))")
       (SameClasses (Name 2 ∷ Meet (Name 3 ∷ SomeOf 0 (Name 2) ∷ []) ∷ []) ∷ [])
-          (codes "x:A" ∷ codes "x:B" ∷ []) (codes "x:R" ∷ [])
+      (codes "x:A" ∷ codes "x:B" ∷ []) (codes "x:R" ∷ [])
   -- the other constructors of class expressions, and owl:Thing by its standard prefix
   pub expression : IsReadAs (codes
       "Ontology(SubClassOf(ObjectUnionOf(<x:B> ObjectComplementOf(<x:A>)) ObjectAllValuesFrom(<x:R> owl:Thing)))")
       (SubClass (Join (Name 2 ∷ Minus (Name 3) ∷ [])) (AllOf 0 (Name 0)) ∷ [])
-          (codes "x:B" ∷ codes "x:A" ∷ []) (codes "x:R" ∷ [])
+      (codes "x:B" ∷ codes "x:A" ∷ []) (codes "x:R" ∷ [])
   -- one operand is enough for an intersection or a union
   pub one_operand : IsReadAs (codes "Ontology(SubClassOf(<x:A> ObjectIntersectionOf(<x:B>)))")
       (SubClass (Name 2) (Meet (Name 3 ∷ [])) ∷ []) (codes "x:A" ∷ codes "x:B" ∷ []) []
@@ -56,7 +56,7 @@ pub record WorkedDocuments : Type 0 where
   pub disjointness : IsReadAs (codes
       "Ontology(DisjointUnion(<x:A> <x:B> <x:C>) DisjointClasses(<x:B> owl:Nothing))")
       (DisjointUnion 2 (Name 3 ∷ Name 4 ∷ []) ∷ Disjoint (Name 3 ∷ Name 1 ∷ []) ∷ [])
-          (codes "x:A" ∷ codes "x:B" ∷ codes "x:C" ∷ []) []
+      (codes "x:A" ∷ codes "x:B" ∷ codes "x:C" ∷ []) []
   -- axioms on roles
   pub roles : IsReadAs
       (codes "Ontology(SubObjectPropertyOf(<x:R> <x:S>) EquivalentObjectProperties(<x:S> <x:T>))")
@@ -65,12 +65,12 @@ pub record WorkedDocuments : Type 0 where
   pub domain_and_range : IsReadAs
       (codes "Ontology(ObjectPropertyDomain(<x:R> <x:A>) ObjectPropertyRange(<x:R> <x:B>))")
       (Domain 0 (Name 2) ∷ Range 0 (Name 3) ∷ []) (codes "x:A" ∷ codes "x:B" ∷ [])
-          (codes "x:R" ∷ [])
+      (codes "x:R" ∷ [])
   -- a short name and a full IRI are one class, and a comment ends with its line
   pub short_names : IsReadAs (codes
       "Prefix(p:=<x:>) # )\nOntology(SubClassOf(p:A <x:B>) SubClassOf(p:B <x:A>))")
       (SubClass (Name 2) (Name 3) ∷ SubClass (Name 3) (Name 2) ∷ [])
-          (codes "x:A" ∷ codes "x:B" ∷ []) []
+      (codes "x:A" ∷ codes "x:B" ∷ []) []
   -- a prefix may be declared twice with one IRI
   pub same_prefix : IsReadAs (codes "Prefix(:=<x:>)Prefix(:=<x:>)Ontology(Declaration(Class(:A)))")
       [] (codes "x:A" ∷ []) []

@@ -4,8 +4,8 @@ use Rattle.cd_cell.specs.Cells.{CellState}
 use Rattle.cd_saturation.specs.Saturation.{new_cell}
 use Rattle.cd_saturation.proofs.saturation.new_cells.Given as goal
 
-abbrev pub invariant-cells : goal.invariant-cells
-invariant-cells l = record {
+abbrev pub invariant-loop-number : goal.invariant-loop-number
+invariant-loop-number l = record {
   each : length l.cells.items ≡ l.number;
   are : (i : ℕ) (c : CellState) → At l.cells.items i c → c ≡ new_cell l.index.normal l.count i;
 }

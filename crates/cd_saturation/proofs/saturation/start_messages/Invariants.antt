@@ -1,5 +1,5 @@
 use Rattle.cd_saturation.specs.Saturation.{AreStarts}
 use Rattle.cd_saturation.proofs.saturation.start_messages.Given as goal
 
-abbrev pub invariant-classes : goal.invariant-classes
-invariant-classes l = AreStarts l.count l.class l.start.items
+abbrev pub invariant-loop-class : goal.invariant-loop-class
+invariant-loop-class l = AreStarts l.count l.class l.start.items

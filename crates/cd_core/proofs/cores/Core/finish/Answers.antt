@@ -1,6 +1,7 @@
 use Rattle.std.proofs.Common.{◌≡◌, ◌+◌, ◌<◌, ◌≤◌, ◌⊎◌, inr, subst, sym, ◌∙◌, arith}
 use Rattle.cd_actor.specs.Cells.{AreOf, Had, total}
 use Rattle.cd_actor.specs.Maxima.{AreBelow, Reaches}
+use Rattle.cd_core.specs.State.{CoreState}
 use Rattle.cd_core.specs.Ends.{IsEnd, IsOneDeliveryPast}
 use Rattle.cd_core.proofs.Turns.{settled, past_more}
 use Rattle.cd_core.proofs.cores.Core.finish.Goals as goal
@@ -28,7 +29,7 @@ returns-in-Ok-false-clause-ok g c =
     let m = g.A.Actor.meaning in
     let after = c.deliver_until_new.new.cells.items in
     let max_contexts = c.args.limits.now.max_contexts in let max_facts = c.args.limits.now.max_facts in
-    subst (λ v. IsEnd m v.0 v.1 c.args.limits.now.max_contexts c.args.limits.now.max_facts after) c.self.view_is record {
+    subst (λ (v : CoreState _ _). IsEnd m v.cells v.pending c.args.limits.now.max_contexts c.args.limits.now.max_facts after) c.self.view_is record {
       settled = settled m c.self.inside.cells.items c.self.inside.pending after c.deliver_until_new.new.pending e.runs (λ x h. e.keeps x (c.rounds.invariant.keeps x h)) (λ f of. e.family f (c.rounds.invariant.family f of)) d.0;
       few = subst (λ n. AreBelow n (total m.facts after) max_contexts max_facts) (sym d.1 ∙ e.contexts)
           (subst (λ n. AreBelow c.rounds.contexts n max_contexts max_facts) (sym d.2 ∙ e.facts) c.in_default.ensures);
@@ -43,8 +44,8 @@ returns-in-Some-clause-stop g c =
     let max_contexts = c.args.limits.now.max_contexts in let max_facts = c.args.limits.now.max_facts in
     let kind = c.in-Some.kind in let number = c.in-Some.number in (
       i.runs.cells_ok,
-      λ x h. i.had x (subst (λ v. Had m v.0 x) (sym e) h),
-      λ f of. i.family f (subst (λ v. AreOf m f v.0) (sym e) of),
+      λ x h. i.had x (subst (λ (v : CoreState _ _). Had m v.cells x) (sym e) h),
+      λ f of. i.family f (subst (λ (v : CoreState _ _). AreOf m f v.cells) (sym e) of),
       subst (λ n. Reaches n (total m.facts cells) max_contexts max_facts kind number) i.contexts
           (subst (λ n. Reaches c.rounds.contexts n max_contexts max_facts kind number) i.facts c.in-Some.ensures),
     )
@@ -52,4 +53,4 @@ returns-in-Some-clause-stop g c =
 pub returns-in-Some-clause-at_once : goal.returns-in-Some-clause-at_once
 returns-in-Some-clause-at_once g c =
     let cells = c.rounds.cells.items in
-    subst (λ v. (cells ≡ v.0) ⊎ IsOneDeliveryPast g.A.Actor.meaning v.0 c.args.limits.now.max_contexts c.args.limits.now.max_facts cells) c.self.view_is c.rounds.invariant.at_once
+    subst (λ (v : CoreState _ _). (cells ≡ v.cells) ⊎ IsOneDeliveryPast g.A.Actor.meaning v.cells c.args.limits.now.max_contexts c.args.limits.now.max_facts cells) c.self.view_is c.rounds.invariant.at_once
