@@ -1,4 +1,3 @@
 pub mod Turns
 pub mod Begins
 pub mod Orders
-pub mod Numbers

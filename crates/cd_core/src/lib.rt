@@ -8,13 +8,13 @@
 //! What a message is and why a run ends are left to the laws of `Actor`: a message that a cell had changes nothing and sends nothing, and
 //! one that it had not makes a count rise. A core keeps that each message that is owed is had or pends (`specs/State.antt`). So where
 //! nothing pends, all that is owed is had, in whichever order the messages were delivered (`laws`).
+//!
+//! Its tests stand in `cd_sample`: cores over cells of numbers, and over those of the engine.
 #![tactic(auto)]
 
 mod cores;
 mod laws;
 mod stops;
-#[cfg(test)]
-mod tests;
 mod turn;
 
 pub use cores::Core;

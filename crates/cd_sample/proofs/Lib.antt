@@ -1,2 +1,3 @@
 pub mod CoreRuns
 pub mod WorkedDerivations
+pub mod NumberCells

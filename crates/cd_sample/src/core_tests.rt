@@ -75,7 +75,7 @@ fn is_delivered_by_choices<'a>(rt: &impl Abort, alloc: Global, core: &mut Core<C
     requires { IsUnderWay 2 core.now }
     ensures { IsUnderWay 2 core.new }
 {
-    'choices: for choice in 0..100usize {
+    for choice in 0..100usize {
         if stepped(rt, alloc, core, choice) == Step::Empty {
             return true;
         }

@@ -25,8 +25,9 @@
 //! the context of 2 have to meet in pairs.
 //!
 //! The tests are a file for each crate whose calls they make: `index_tests`, `rules_tests`, `context_tests`, `cell_tests`, and `core_tests`
-//! for a core over cells. They stand here and not in those crates, where the index would stand as often, and each crate would be proved
-//! once more with its tests. No crate stands on this one.
+//! for a core over cells. `numbers_tests` has cores over other cells (`numbers`), which are no part of a reasoner: what a core does to its
+//! cells and their messages can be read off them. The tests stand here and not in those crates, where the index would stand as often, and
+//! each crate would be proved once more with its tests. No crate stands on this one.
 #![tactic(auto)]
 
 #[cfg(test)]
@@ -37,6 +38,10 @@ mod context_tests;
 mod core_tests;
 #[cfg(test)]
 mod index_tests;
+#[cfg(test)]
+pub mod numbers;
+#[cfg(test)]
+mod numbers_tests;
 #[cfg(test)]
 mod rules_tests;
 #[cfg(test)]

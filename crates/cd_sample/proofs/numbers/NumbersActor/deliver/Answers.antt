@@ -2,8 +2,8 @@ use Rattle.std.proofs.Common.{◌==◌, false, ◌≡◌, ◌∙◌, refl, subst
 use Rattle.std.specs.List.{list_any}
 use Rattle.cd_actor.specs.Sends.{sent}
 use Rattle.cd_actor.specs.Meaning.{Delivers}
-use Rattle.cd_core.proofs.Numbers.{meaning, owed, owed_is, sent_is, delivers_more, apart_new}
-use Rattle.cd_core.proofs.tests.NumbersActor.deliver.Goals as goal
+use Rattle.cd_sample.proofs.NumberCells.{meaning, owed, owed_is, sent_is, delivers_more, apart_new}
+use Rattle.cd_sample.proofs.numbers.NumbersActor.deliver.Goals as goal
 
 pub invariant_of-self-2 : goal.invariant_of-self-2
 invariant_of-self-2 c =
