@@ -120,7 +120,8 @@ impl<A: Actor> Core<A> {
     /// each other.
     ///
     /// `Limit` where a sum has reached its maximum, the contexts first, with that sum and the cells. Nothing is delivered from then on;
-    /// `at_once` says so as far as the laws of an actor tell one delivery from several to one cell. `Memory` where a delivery has wanted for memory, here or before.
+    /// `at_once` says so as far as the laws of an actor tell one delivery from several to one cell. `Memory` where a delivery has wanted
+    /// for memory, here or before.
     pub fn finish(self, alloc: Global, limits: &Limits) -> Result<Vec<A>, Stop<A>>
     where
         A: Drop,
