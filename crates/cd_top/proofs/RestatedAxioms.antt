@@ -345,30 +345,30 @@ module _ (names : List (List ℕ)) (below : ℕ → ℕ → Bool) (known : AreNa
         let other : number_of b ≢ 1
         = λ is. both_ways (below a b) (subst (λ x. below a x ≡ false) (sym (same_class b 1 b_in two (is ∙ sym number_of_nothing))) apart) up in
         let at = Contains-map pair above b (Contains-filter (below a) (range_with_len 0 (length names)) b (range_contains (length names) b b_in) up) in
-        let listed : list_any (λ (m : OneOf). m.class == number_of b && m.element == 0) (map pair above) ≡ true
-        = list_any-from_Any (λ (m : OneOf). m.class == number_of b && m.element == 0) (map pair above)
+        let listed : list_any (λ (m : Member). m.class == number_of b && m.element == 0) (map pair above) ≡ true
+        = list_any-from_Any (λ (m : Member). m.class == number_of b && m.element == 0) (map pair above)
         (at.0, pair b, at.1, at.2, and_from (number_of b == number_of b) (0 == 0) (eq-eqb (number_of b) (number_of b) refl) refl) in
-        or_right (number_of b == 0) (not (number_of b == 1) && list_any (λ (m : OneOf). m.class == number_of b && m.element == 0) (map pair above))
-        (and_from (not (number_of b == 1)) (list_any (λ (m : OneOf). m.class == number_of b && m.element == 0) (map pair above))
+        or_right (number_of b == 0) (not (number_of b == 1) && list_any (λ (m : Member). m.class == number_of b && m.element == 0) (map pair above))
+        (and_from (not (number_of b == 1)) (list_any (λ (m : Member). m.class == number_of b && m.element == 0) (map pair above))
         (ap not (ne_eqb (number_of b) 1 other)) listed)
 
     above_from : (b : ℕ) → b < length names → class_has one (number_of b) 0 ≡ true → below a b ≡ true
     above_from b b_in h =
-        elim (or_cases (number_of b == 0) (not (number_of b == 1) && list_any (λ (m : OneOf). m.class == number_of b && m.element == 0) (map pair above)) h) [
+        elim (or_cases (number_of b == 0) (not (number_of b == 1) && list_any (λ (m : Member). m.class == number_of b && m.element == 0) (map pair above)) h) [
           | inl is ↦
               let zero_is : b ≡ 0 = same_class b 0 b_in (omega (arith, two)) (eqb-true (number_of b) 0 is ∙ sym number_of_thing) in
               subst (λ x. below a x ≡ true) (sym zero_is) (s.thing a a_in)
           | inr rest ↦
-              let listed = (and_parts (not (number_of b == 1)) (list_any (λ (m : OneOf). m.class == number_of b && m.element == 0) (map pair above)) rest).1 in
-              let found : Any (λ (m : OneOf). (m.class == number_of b && m.element == 0) ≡ true) (map pair above)
-              = Any-from_list_any (λ (m : OneOf). m.class == number_of b && m.element == 0) (map pair above) listed in
+              let listed = (and_parts (not (number_of b == 1)) (list_any (λ (m : Member). m.class == number_of b && m.element == 0) (map pair above)) rest).1 in
+              let found : Any (λ (m : Member). (m.class == number_of b && m.element == 0) ≡ true) (map pair above)
+              = Any-from_list_any (λ (m : Member). m.class == number_of b && m.element == 0) (map pair above) listed in
               let from = Contains-from_map pair above found.1 (found.0, found.2, found.3) in
               let c : ℕ = from.0 in
               let c_in : c < length names
               = All-contains (λ x. x < length names) (range_with_len 0 (length names)) c (range_within (length names))
               (Contains-from_filter (below a) (range_with_len 0 (length names)) c from.1) in
               let numbers : number_of c ≡ number_of b
-              = ap (λ (m : OneOf). m.class) from.2 ∙ eqb-true (found.1).class (number_of b) (and_parts ((found.1).class == number_of b) ((found.1).element == 0) found.4).0 in
+              = ap (λ (m : Member). m.class) from.2 ∙ eqb-true (found.1).class (number_of b) (and_parts ((found.1).class == number_of b) ((found.1).element == 0) found.4).0 in
               subst (λ x. below a x ≡ true) (same_class c b c_in b_in numbers) (passes_from_filter (below a) (range_with_len 0 (length names)) c from.1)
         ]
 
