@@ -1,28 +1,15 @@
--- Lists of elements as clauses: compared, joined, and with one removed.
-use Rattle.std.proofs.Common.{◌≡◌, ◌==◌, ◌↔◌, ◌-◌, ◌<◌, ℕ, zero, suc, Bool, true, false, List, [], ◌∷◌, ◌++◌, length, take, drop, refl, sym, ◌∙◌, ap, subst, inl, inr, arith}
+-- Lists of elements as clauses: joined, and with one removed.
+use Rattle.std.proofs.Common.{◌≡◌, ◌-◌, ◌<◌, ℕ, zero, suc, List, [], ◌∷◌, ◌++◌, length, take, drop, refl, sym, ◌∙◌, ap, subst, inl, inr, arith}
 use Rattle.std.proofs.Math.Seq.{take-length}
 use Rattle.std.specs.List.{remove}
-use Rattle.cd_base.specs.Lists.{OneOf, Within, SameSet}
-use Rattle.cd_base.specs.Ascending.{Ascending, is_covered}
-use Rattle.cd_base.proofs.Ascending.{covered_within, within_covered}
+use Rattle.cd_base.specs.Lists.{OneOf, SameSet}
+use Rattle.cd_base.specs.Ascending.{Ascending}
 use Rattle.cd_base.proofs.Members.{member_left, member_right, member_cases}
 use Rattle.cd_clause.specs.Elements.{is_before}
 use Rattle.cd_clause.specs.Merged.{merged}
 use Rattle.cd_clause.specs.declared.elem.Elem.{Elem}
 use Rattle.cd_clause.proofs.Merged.{merged_same, merged_ascends}
 use Rattle.cd_clause.proofs.Order.{elems_strict}
-
--- where the second list is gone through, the walk has found the first if none of it is left
-pub walk_ends : (xs ys : List Elem) (b : Bool) → b ≡ (length xs == 0) → length ys < 1 → b ≡ is_covered is_before xs ys
-walk_ends [] [] b e l = e
-walk_ends (x ∷ xs) [] b e l = let z : (length (x ∷ xs) == 0) ≡ false = grind arith in e ∙ z
-walk_ends xs (y ∷ ys) b e l = absurd (omega (arith, l))
-
--- the walk decides
-pub decides : (c d xs ys : List Elem) (b : Bool) → xs ≡ c → ys ≡ d → Ascending is_before c → Ascending is_before d → b ≡ is_covered is_before xs ys → (b ≡ true) ↔ Within c d
-decides c d xs ys b p q v w e =
-    let h : b ≡ is_covered is_before c d = cc in
-    (λ t. covered_within is_before elems_strict c d (sym h ∙ t), λ k. h ∙ within_covered is_before elems_strict c d v w k)
 
 pub joined_ascends : (c d xs ys out : List Elem) → xs ≡ c → ys ≡ d → Ascending is_before c → Ascending is_before d → out ≡ merged is_before xs ys → Ascending is_before out
 joined_ascends c d xs ys out p q v w e =

@@ -5,3 +5,5 @@ pub mod Elements
 pub mod Eligibles
 pub mod Merged
 pub mod Order
+pub mod Strengths
+pub mod Walks

@@ -12,17 +12,18 @@ abbrev pub spelled : Elem → List ℕ
 spelled (Plain a) = 0 ∷ a ∷ []
 spelled (Exist r k) = 1 ∷ r ∷ k
 
--- the first stands before the second in a clause: atoms by number, then existentials by role and key
+-- the first stands before the second in a clause: atoms by number, then existentials by role, and of one role by key, larger keys before
+-- those within them
 abbrev pub is_before : Elem → Elem → Bool
 is_before e f = not (is_at_most (spelled f) (spelled e))
 
--- an element's rank in the order of the calculus, compared in dictionary order: named atoms are lowest and all of one rank, other
--- atoms are ordered by number, and existentials are above atoms and ordered by role and key
+-- an element's rank in the order of the calculus, compared in dictionary order: named atoms are lowest, by number, then come the other
+-- atoms, by number, and existentials are above atoms, by role and key, larger keys below those within them
 abbrev pub rank : Normal → Elem → List ℕ
-rank n (Plain a) = cond (is_named n a) (0 ∷ []) (1 ∷ a ∷ [])
+rank n (Plain a) = cond (is_named n a) (0 ∷ a ∷ []) (1 ∷ a ∷ [])
 rank n (Exist r k) = 2 ∷ r ∷ k
 
--- the element is in the clause, and none of the clause is strictly greater
+-- the element is in the clause, and each of the clause is at most it: it is the greatest
 pub record Eligible (n : Normal) (e : Elem) (c : List Elem) : Type 0 where
   pub isin : OneOf e c
   pub top : (f : Elem) → OneOf f c → is_at_most (rank n f) (rank n e) ≡ true

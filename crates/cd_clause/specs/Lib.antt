@@ -1,3 +1,4 @@
+pub mod Covering
 pub mod Derivations
 pub mod Dictionary
 pub mod Elements

@@ -1,17 +1,19 @@
 //! Clauses: sets of elements in a fixed order.
 ghost use Rattle.std.specs.Prelude.{◌≡◌, ◌<◌, ◌↔◌, ◌∷◌, ◌++◌, length, remove, true, IfOk};
-ghost use Rattle.cd_base.specs.Lists.{Within, SameSet};
+ghost use Rattle.cd_base.specs.Lists.{SameSet};
 ghost use Rattle.cd_base.specs.Ascending.{Ascending};
+ghost use Rattle.cd_clause.specs.Covering.{Covers};
 ghost use Rattle.cd_clause.specs.Elements.{is_before};
 
+use crate::covering::covers;
 use crate::elem::Elem;
-use crate::walk::{are_within, joined, with_copies, with_elem};
+use crate::walk::{joined, with_copies, with_elem};
 use cd_base::Memory;
 use smallvec::SmallVec;
 use std::alloc::Global;
 use std::marker::Model;
 
-/// A set of elements. The atoms stand first, by number, and then the existentials by role and key.
+/// A set of elements. The atoms stand first, by number, and then the existentials by role and key, larger keys before those within them.
 ///
 /// One element stands in the value itself, since most clauses have just one.
 #[derive(Debug, Drop)]
@@ -90,10 +92,11 @@ impl Clause {
         Ok(Clause { elems })
     }
 
-    /// Whether every element of this clause is in the other. One walk over both.
-    pub fn within(&self, other: &Clause) -> bool
-        ensures { (result ≡ true) ↔ Within self.now other.now }
+    /// Whether this clause covers the other: each of its elements is at least as strong as one of the other's, so that beside this one the
+    /// other says nothing. One walk over both, and for each existential of this one a look at the existentials of the other.
+    pub fn covers(&self, other: &Clause) -> bool
+        ensures { (result ≡ true) ↔ Covers self.now other.now }
     {
-        are_within(self.elems(), other.elems())
+        covers(self.elems(), other.elems())
     }
 }

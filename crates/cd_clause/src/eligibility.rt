@@ -10,9 +10,8 @@ use crate::clause::Clause;
 use crate::elem::{Elem, are_at_most};
 use cd_base::Normal;
 
-/// Whether the element at place `i` is eligible: no element of the clause is strictly greater in the order of the calculus, in which
-/// named atoms are lowest and not ordered among themselves, other atoms are above them by number, and existentials are above
-/// atoms, by role and then by key.
+/// Whether the element at place `i` is eligible: it is the greatest of the clause in the order of the calculus, in which named atoms are
+/// lowest, other atoms are above them, both by number, and existentials are above atoms, by role and then by key.
 ///
 /// Linear in the clause and the literals of its keys.
 pub fn eligible(clause: &Clause, i: usize, normal: &Normal) -> bool
@@ -38,7 +37,11 @@ fn is_at_most(left: &Elem, right: &Elem, normal: &Normal) -> bool
 {
     match (left, right) {
         (Elem::Plain(a), Elem::Plain(b)) => {
-            normal.is_named(*a) || (!normal.is_named(*b) && a <= b)
+            if normal.is_named(*a) {
+                !normal.is_named(*b) || a <= b
+            } else {
+                !normal.is_named(*b) && a <= b
+            }
         }
         (Elem::Plain(_), Elem::Exist(_, _)) => true,
         (Elem::Exist(_, _), Elem::Plain(_)) => false,

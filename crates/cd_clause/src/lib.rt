@@ -8,6 +8,7 @@
 #![tactic(auto)]
 
 mod clause;
+mod covering;
 mod elem;
 mod eligibility;
 mod walk;

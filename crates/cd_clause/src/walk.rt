@@ -1,6 +1,5 @@
-//! The walks that make and compare clauses, over their elements.
+//! The walks that make clauses, over their elements.
 ghost use Rattle.std.specs.Prelude.{◌≡◌, ◌∷◌, ◌++◌, [], IfOk};
-ghost use Rattle.cd_base.specs.Ascending.{is_covered};
 ghost use Rattle.cd_clause.specs.Elements.{is_before};
 ghost use Rattle.cd_clause.specs.Merged.{merged, after};
 
@@ -100,27 +99,4 @@ fn after<'a>(elem: &Elem, rest: &'a [Elem]) -> &'a [Elem]
         [first, above @ ..] if !elem.is_before(first) => above,
         _ => rest,
     }
-}
-
-/// Whether each of the first, which ascend, is one of the second, by one walk over both.
-pub(crate) fn are_within(left: &[Elem], right: &[Elem]) -> bool
-    ensures { result ≡ is_covered is_before left.now right.now }
-{
-    let mut wanted = left;
-    let mut rest = right;
-    while let [elem, others @ ..] = rest {
-        match wanted {
-            [] => return true,
-            [first, later @ ..] => {
-                if first.is_before(elem) {
-                    return false;
-                }
-                if !elem.is_before(first) {
-                    wanted = later;
-                }
-            }
-        }
-        rest = others;
-    }
-    wanted.is_empty()
 }

@@ -12,7 +12,7 @@ use Rattle.cd_meaning.specs.NormalAxioms.{n1, n2, n3, n4, n5, in_atom, IsNormalM
 use Rattle.cd_meaning.proofs.Edges.{edge_of, edge_from}
 use Rattle.cd_model.specs.Meaning.{IsIn}
 use Rattle.cd_model.specs.Canonical.{Listing, canonical, Completeness}
-use Rattle.cd_model.proofs.Listings.{Is, Goes, InRange, Holds, IsListedCounter}
+use Rattle.cd_model.proofs.Listings.{Is, Goes, InRange, Holds, IsListedModel}
 use Rattle.cd_model.proofs.Model.{complete}
 
 module _ (l : Listing) (r : InRange l) where
@@ -58,18 +58,20 @@ module _ (l : Listing) (r : InRange l) where
   shown_holds n h (n5 p) m = λ x y g. goes_edge p.higher x y (h.n5 p m x y (edge_goes p.lower x y g))
 
 pub completeness : Completeness
-completeness n below closure roles keys live sat a open' b =
-    let l : Listing = canonical n below keys live b in
-    let c : IsListedCounter n l keys live b = complete n below closure roles keys live sat a open' b in (
+completeness n below closure roles keys live sat start start_open =
+    let l : Listing = canonical n below keys live in
+    let c : IsListedModel n l keys live = complete n below closure roles keys live sat start start_open in (
       shown l c.range,
       record { size = refl; members = refl; edges = refl },
       record {
         holds = shown_holds l c.range n c.holds;
-        element = λ d od. let e = c.element d od in record {
-          x = e.x;
-          below = e.below;
-          isin = is_in l c.range d e.x e.isin;
-          only_single = λ named i. e.only_single named (in_is l c.range b e.x i);
-        };
+        element = λ k o. let e = c.element k o in (
+          e.x,
+          record {
+            below = e.below;
+            meets = record { plains = λ a m. is_in l c.range a e.x (e.plains a m); negateds = λ a m i. e.negateds a m (in_is l c.range a e.x i) };
+            chosen = λ a i. e.only_chosen a (in_is l c.range a e.x i);
+          },
+        );
       },
     )

@@ -10,9 +10,8 @@ use Rattle.cd_clause.specs.Dictionary.{same_numbers}
 use Rattle.cd_clause.specs.declared.elem.Elem.{Elem}
 use Rattle.cd_clause.specs.declared.elem.Elem.TheVariants.{Plain, Exist}
 use Rattle.cd_clause.proofs.Elements.{same_numbers-true, same_numbers-refl}
-use Rattle.cd_model.specs.Canonical.{Listing, chosen, has_empty, is_maximal, Element, elements, numbers_below, atoms_at, edges_by, canonical}
+use Rattle.cd_model.specs.Canonical.{Listing, chosen, has_empty, Element, elements, numbers_below, atoms_at, edges_by, canonical}
 use Rattle.cd_model.proofs.Listings.{Is, Goes}
-use Rattle.cd_model.proofs.Maximal.{Maximal, is_maximal-true, is_maximal-from}
 
 elements_good : (live : List ℕ → List (List Elem)) (from : ℕ) (keys : List (List ℕ)) (p : Element) → OneOf p (elements live from keys)
     → OneOf p.key keys × (has_empty (live p.key) ≡ false) × (from ≤ p.number) × (p.number < from + length (elements live from keys))
@@ -95,7 +94,7 @@ atoms_member a x y (Plain b ∷ es) (inl q) = (inl (ap (λ (w : Pair). Plain w.c
 atoms_member a x y (Plain b ∷ es) (inr m) = let r = atoms_member a x y es m in (inr r.0, r.1)
 atoms_member a x y (Exist r k ∷ es) m = let r = atoms_member a x y es m in (inr r.0, r.1)
 
-module _ (n : Normal) (below : ℕ → ℕ → Bool) (keys : List (List ℕ)) (live : List ℕ → List (List Elem)) (least : ℕ) where
+module _ (n : Normal) (below : ℕ → ℕ → Bool) (keys : List (List ℕ)) (live : List ℕ → List (List Elem)) where
   -- x is the element of the key
   pub record At (x : ℕ) (k : List ℕ) : Type 0 where
     pub known : OneOf k keys
@@ -112,10 +111,10 @@ module _ (n : Normal) (below : ℕ → ℕ → Bool) (keys : List (List ℕ)) (l
   at_one x k l p q = elements_one live 0 keys (record { number = x; key = k }) (record { number = x; key = l }) p.listed q.listed refl
 
   abbrev pub Model : Listing
-  Model = canonical n below keys live least
+  Model = canonical n below keys live
 
   abbrev pub Ch : List ℕ → List Elem
-  Ch k = chosen n least (live k)
+  Ch k = chosen n (live k)
 
   pub at_below : (x : ℕ) (k : List ℕ) → At x k → x < Model.size
   unfolding canonical
@@ -127,12 +126,12 @@ module _ (n : Normal) (below : ℕ → ℕ → Bool) (keys : List (List ℕ)) (l
 
   pub is_from : (a x : ℕ) (k : List ℕ) → At x k → OneOf (Plain a) (Ch k) → Is Model a x
   unfolding canonical
-  is_from a x k p m = member_collect (λ (q : Element). atoms_at q.number (chosen n least (live q.key))) (record { number = x; key = k }) (record { class = a; element = x }) (elements live 0 keys) p.listed (member_atoms a x (Ch k) m)
+  is_from a x k p m = member_collect (λ (q : Element). atoms_at q.number (chosen n (live q.key))) (record { number = x; key = k }) (record { class = a; element = x }) (elements live 0 keys) p.listed (member_atoms a x (Ch k) m)
 
   pub is_at : (a x : ℕ) → Is Model a x → (k : List ℕ) × At x k × OneOf (Plain a) (Ch k)
   unfolding canonical
   is_at a x m =
-      let r = collect_member (λ (q : Element). atoms_at q.number (chosen n least (live q.key))) (record { class = a; element = x }) (elements live 0 keys) m in
+      let r = collect_member (λ (q : Element). atoms_at q.number (chosen n (live q.key))) (record { class = a; element = x }) (elements live 0 keys) m in
       let s = atoms_member a r.0.number x (Ch r.0.key) r.2 in
       (r.0.key, subst (λ z. At z r.0.key) (sym s.1) (at_listed r.0 r.1), s.0)
 
@@ -145,29 +144,26 @@ module _ (n : Normal) (below : ℕ → ℕ → Bool) (keys : List (List ℕ)) (l
     pub target : At y to
     pub above : below lower r ≡ true
     pub picked : OneOf (Exist lower to) (Ch from)
-    pub maximal : Maximal lower to (Ch from)
 
   pub goes_from : (r x y : ℕ) → r < n.roles → Goal r x y → Goes Model r x y
   unfolding canonical
   goes_from r x y l g =
       let all : List Element = elements live 0 keys in
       let e : Edge = record { role = r; source = x; target = y } in
-      member_collect (λ (p : Element). collect (edges_by below n.roles all (chosen n least (live p.key)) p.number) (chosen n least (live p.key))) (record { number = x; key = g.from }) e all g.source.listed
-      (member_collect (edges_by below n.roles all (Ch g.from) x) (Exist g.lower g.to) e (Ch g.from) g.picked
-      (member_cond (is_maximal g.lower g.to (Ch g.from)) e _ (is_maximal-from g.lower g.to (Ch g.from) g.maximal)
+      member_collect (λ (p : Element). collect (edges_by below n.roles all p.number) (chosen n (live p.key))) (record { number = x; key = g.from }) e all g.source.listed
+      (member_collect (edges_by below n.roles all x) (Exist g.lower g.to) e (Ch g.from) g.picked
       (member_collect (λ (p : Element). cond (same_numbers g.to p.key) (collect (λ (s : ℕ). cond (below g.lower s) (record { role = s; source = x; target = p.number } ∷ []) []) (numbers_below n.roles)) []) (record { number = y; key = g.to }) e all g.target.listed
       (member_cond (same_numbers g.to g.to) e _ (same_numbers-refl g.to)
       (member_collect (λ (s : ℕ). cond (below g.lower s) (record { role = s; source = x; target = y } ∷ []) []) r e (numbers_below n.roles) (below_member r n.roles l)
-      (member_cond (below g.lower r) e _ g.above (inl refl)))))))
+      (member_cond (below g.lower r) e _ g.above (inl refl))))))
 
   edge_at : (r x y : ℕ) (p : Element) → OneOf p (elements live 0 keys) → (el : Elem) → OneOf el (Ch p.key)
-      → OneOf (record { role = r; source = x; target = y }) (edges_by below n.roles (elements live 0 keys) (Ch p.key) p.number el) → Goal r x y
+      → OneOf (record { role = r; source = x; target = y }) (edges_by below n.roles (elements live 0 keys) p.number el) → Goal r x y
   edge_at r x y p pm (Plain a) em m = absurd m
   edge_at r x y p pm (Exist s k) em m =
       let all : List Element = elements live 0 keys in
       let e : Edge = record { role = r; source = x; target = y } in
-      let c1 = cond_member (is_maximal s k (Ch p.key)) e _ m in
-      let c2 = collect_member (λ (q : Element). cond (same_numbers k q.key) (collect (λ (t : ℕ). cond (below s t) (record { role = t; source = p.number; target = q.number } ∷ []) []) (numbers_below n.roles)) []) e all c1.1 in
+      let c2 = collect_member (λ (q : Element). cond (same_numbers k q.key) (collect (λ (t : ℕ). cond (below s t) (record { role = t; source = p.number; target = q.number } ∷ []) []) (numbers_below n.roles)) []) e all m in
       let c3 = cond_member (same_numbers k c2.0.key) e _ c2.2 in
       let c4 = collect_member (λ (t : ℕ). cond (below s t) (record { role = t; source = p.number; target = c2.0.number } ∷ []) []) e (numbers_below n.roles) c3.1 in
       let c5 = cond_member (below s c4.0) e _ c4.2 in
@@ -184,7 +180,6 @@ module _ (n : Normal) (below : ℕ → ℕ → Bool) (keys : List (List ℕ)) (l
               target = subst (λ z. At z k) (sym ey) (subst (At c2.0.number) (sym ek) (at_listed c2.0 c2.1));
               above = subst (λ z. below s z ≡ true) (sym er) c5.0;
               picked = em;
-              maximal = is_maximal-true s k (Ch p.key) c1.0;
             })
         | inr z ↦ absurd z
       ]
@@ -194,6 +189,6 @@ module _ (n : Normal) (below : ℕ → ℕ → Bool) (keys : List (List ℕ)) (l
   goes_at r x y m =
       let all : List Element = elements live 0 keys in
       let e : Edge = record { role = r; source = x; target = y } in
-      let d1 = collect_member (λ (p : Element). collect (edges_by below n.roles all (chosen n least (live p.key)) p.number) (chosen n least (live p.key))) e all m in
-      let d2 = collect_member (edges_by below n.roles all (Ch d1.0.key) d1.0.number) e (Ch d1.0.key) d1.2 in
+      let d1 = collect_member (λ (p : Element). collect (edges_by below n.roles all p.number) (chosen n (live p.key))) e all m in
+      let d2 = collect_member (edges_by below n.roles all d1.0.number) e (Ch d1.0.key) d1.2 in
       edge_at r x y d1.0 d1.1 d2.0 d2.1 d2.2

@@ -4,9 +4,7 @@ pub mod Complete
 pub mod Elements
 pub mod Exact
 pub mod Listings
-pub mod Maximal
 pub mod Model
-pub mod Numbers
 pub mod Order
 pub mod Sound
 pub mod TrueAnswers

@@ -1,14 +1,14 @@
 -- Members and edges that are listed.
-use Rattle.std.proofs.Common.{◌≡◌, ℕ, ◌<◌, true, List, [], ◌∷◌}
+use Rattle.std.proofs.Common.{ℕ, ◌<◌, List}
 use Rattle.cd_base.specs.Lists.{OneOf}
 use Rattle.cd_base.specs.declared.normal.Normal.{Normal}
 use Rattle.cd_base.specs.declared.normal.Conj.{Conj}
 use Rattle.cd_base.specs.declared.normal.Triple.{Triple}
 use Rattle.cd_base.specs.declared.normal.RolePair.{RolePair}
-use Rattle.cd_base.specs.Keys.{plain, is_named}
+use Rattle.cd_base.specs.Keys.{plain, negated}
 use Rattle.cd_clause.specs.declared.elem.Elem.{Elem}
-use Rattle.cd_clause.specs.Derivations.{IsSingle}
-use Rattle.cd_model.specs.Canonical.{Listing, Open}
+use Rattle.cd_clause.specs.declared.elem.Elem.TheVariants.{Plain}
+use Rattle.cd_model.specs.Canonical.{Listing, IsOpen, chosen}
 
 -- x is listed in the atom
 abbrev pub Is : Listing → ℕ → ℕ → Type 0
@@ -33,8 +33,16 @@ pub record Holds (n : Normal) (i : Listing) : Type 0 where
   pub n4 : (t : Triple) → OneOf t n.n4 → (x y : ℕ) → Is i t.atom x → Goes i t.role x y → Is i t.other y
   pub n5 : (p : RolePair) → OneOf p n.n5 → (x y : ℕ) → Goes i p.lower x y → Goes i p.higher x y
 
--- what is listed is in range and a model, with an element for each {a} without the empty clause
-pub record IsListedCounter (n : Normal) (l : Listing) (keys : List (List ℕ)) (live : List ℕ → List (List Elem)) (b : ℕ) : Type 0 where
+-- an element is listed in each plain atom of the key, in no negated one, and in chosen atoms alone
+pub record ListedFor (n : Normal) (l : Listing) (k : List ℕ) (live : List (List Elem)) : Type 0 where
+  pub x : ℕ
+  pub below : x < l.size
+  pub plains : (a : ℕ) → OneOf (plain a) k → Is l a x
+  pub negateds : (a : ℕ) → OneOf (negated a) k → Is l a x → ⊥
+  pub only_chosen : (a : ℕ) → Is l a x → OneOf (Plain a) (chosen n live)
+
+-- what is listed is in range and a model, with an element for each context without the empty clause
+pub record IsListedModel (n : Normal) (l : Listing) (keys : List (List ℕ)) (live : List ℕ → List (List Elem)) : Type 0 where
   pub range : InRange l
   pub holds : Holds n l
-  pub element : (a : ℕ) → Open keys live a → record { x : ℕ; below : x < l.size; isin : Is l a x; only_single : is_named n b ≡ true → Is l b x → IsSingle (live (plain a ∷ [])) b }
+  pub element : (k : List ℕ) → IsOpen keys live k → ListedFor n l k (live k)

@@ -16,8 +16,8 @@ use Rattle.cd_meaning.specs.NormalAxioms.{NormalAxiom, in_atom, IsNormalModel}
 use Rattle.cd_meaning.proofs.Edges.{target_within}
 use Rattle.cd_clause.specs.declared.elem.Elem.{Elem}
 use Rattle.cd_clause.specs.declared.elem.Elem.TheVariants.{Plain, Exist}
-use Rattle.cd_clause.specs.Elements.{Eligible, rest}
-use Rattle.cd_clause.specs.Rules.{Rests, Concludes, by_init, by_neg, by_con, by_ex, by_back, by_dead, by_all}
+use Rattle.cd_clause.specs.Elements.{rest}
+use Rattle.cd_clause.specs.Rules.{Rests, Told, Concludes, told_by, by_init, by_neg, by_con, by_ex, by_back, by_sure, by_dead, by_all}
 use Rattle.cd_clause.specs.Derivations.{Entry, Listed, Derivation}
 use Rattle.cd_clause.proofs.Elements.{elem_cases, member_rest}
 use Rattle.cd_model.specs.Meaning.{IsIn, Meets, TrueElem, TrueClause}
@@ -42,6 +42,10 @@ gives n i h = record {
   n4 = λ t m x y w g. h (NormalAxiom.n4 t) m x y g w;
   n5 = λ p m x y g. h (NormalAxiom.n5 p) m x y g;
 }
+
+-- a clause of the atom alone is true by the atom
+single_true : (i : Interpretation) (a : ℕ) (c : List Elem) → Within c (Plain a ∷ []) → (x : ℕ) → TrueClause i x c → IsIn i a x
+single_true i a c w x t = elim (w t.0 t.1) [ inl q ↦ subst (TrueElem i x) q t.2 | inr z ↦ absurd z ]
 
 module _ (n : Normal) (i : Interpretation) (holds : Gives n i) where
   -- every edge of a role is one of each role above it
@@ -92,24 +96,25 @@ module _ (n : Normal) (i : Interpretation) (holds : Gives n i) where
   rest_to : (x : ℕ) (e g : Elem) (c d : List Elem) → Within (g ∷ rest e c) d → TrueClause i x (rest e c) → TrueClause i x d
   rest_to x e g c d w t = (t.0, w t.0 (inr t.1), t.2)
 
-  concludes_true : (key : List ℕ) (Has : List Elem → Type 0) (Back : ℕ → List ℕ → ℕ → Type 0) (Dead : ℕ → List ℕ → Type 0) (d : List Elem)
+  concludes_true : (key : List ℕ) (Has : List Elem → Type 0) (told : Told) (d : List Elem)
       → ((c : List Elem) → Has c → (x : ℕ) → x < i.size → Meets i x key → TrueClause i x c)
-      → ((r : ℕ) (k : List ℕ) → Dead r k → (y : ℕ) → y < i.size → Meets i y k → ⊥)
-      → Concludes n key Has Back Dead d → (x : ℕ) → x < i.size → Meets i x key → TrueClause i x d
-  concludes_true key Has Back Dead d had dead (by_init a m s) x l t = (Plain a, s.1 (Plain a) (inl refl), t.plains a m)
-  concludes_true key Has Back Dead d had dead (by_neg a c h top m s) x l t =
+      → ((r : ℕ) (k : List ℕ) (a : ℕ) → told.sure r k a → (y : ℕ) → y < i.size → Meets i y k → IsIn i a y)
+      → ((r : ℕ) (k : List ℕ) → told.dead r k → (y : ℕ) → y < i.size → Meets i y k → ⊥)
+      → Concludes n key Has told d → (x : ℕ) → x < i.size → Meets i x key → TrueClause i x d
+  concludes_true key Has told d had sure dead (by_init a m s) x l t = (Plain a, s.1 (Plain a) (inl refl), t.plains a m)
+  concludes_true key Has told d had sure dead (by_neg a c h top m s) x l t =
       elim (split x (Plain a) c (had c h x l t)) [ inl u ↦ absurd (t.negateds a m u) | inr u ↦ wider x (rest (Plain a) c) d s.1 u ]
-  concludes_true key Has Back Dead d had dead (by_con q m k r s) x l t =
+  concludes_true key Has told d had sure dead (by_con q m k r s) x l t =
       elim (all_or_rest x Has (λ c h. had c h x l t) q.left m r) [
         | inl w ↦ (let b = holds.n1 q k x l w in (Plain b.0, s.1 (Plain b.0) (member_right (Plain b.0) m (map Plain q.right) (member_map Plain b.0 q.right b.1)), b.2))
         | inr u ↦ wider x m d (λ f p. s.1 f (member_left f m (map Plain q.right) p)) u
       ]
-  concludes_true key Has Back Dead d had dead (by_ex q c k h top s) x l t =
+  concludes_true key Has told d had sure dead (by_ex q c k h top s) x l t =
       elim (split x (Plain q.atom) c (had c h x l t)) [
         | inl u ↦ (let y = holds.n2 q k x l u in (Exist q.role (plain q.other ∷ []), s.1 (Exist q.role (plain q.other ∷ [])) (inl refl), (y.0, y.1, meets_single y.0 q.other y.2)))
         | inr u ↦ wider x (rest (Plain q.atom) c) d (λ f p. s.1 f (inr p)) u
       ]
-  concludes_true key Has Back Dead d had dead (by_back q c r k m h top b u s) x l t =
+  concludes_true key Has told d had sure dead (by_back q c r k m h top b u s) x l t =
       elim (split x (Exist r k) c (had c h x l t)) [
         | inl y ↦ elim (true_or_false (in_atom i q.atom y.0)) [
           | inl isa ↦ (Plain q.other, s.1 (Plain q.other) (inl refl), holds.n3 q m x y.0 (goes_up u x y.0 y.1) isa)
@@ -117,12 +122,17 @@ module _ (n : Normal) (i : Interpretation) (holds : Gives n i) where
         ]
         | inr v ↦ wider x (rest (Exist r k) c) d (λ f p. s.1 f (inr (inr p))) v
       ]
-  concludes_true key Has Back Dead d had dead (by_dead c r k h top z s) x l t =
+  concludes_true key Has told d had sure dead (by_sure q c r k m h top b u s) x l t =
+      elim (split x (Exist r k) c (had c h x l t)) [
+        | inl y ↦ (Plain q.other, s.1 (Plain q.other) (inl refl), holds.n3 q m x y.0 (goes_up u x y.0 y.1) (sure r k q.atom b y.0 (target_within i r x y.0 y.1) y.2))
+        | inr v ↦ wider x (rest (Exist r k) c) d (λ f p. s.1 f (inr p)) v
+      ]
+  concludes_true key Has told d had sure dead (by_dead c r k h top z s) x l t =
       elim (split x (Exist r k) c (had c h x l t)) [
         | inl y ↦ absurd (dead r k z y.0 (target_within i r x y.0 y.1) y.2)
         | inr v ↦ wider x (rest (Exist r k) c) d s.1 v
       ]
-  concludes_true key Has Back Dead d had dead (by_all q c b r k m h top hb topb u s) x l t =
+  concludes_true key Has told d had sure dead (by_all q c b r k m h top hb topb u s) x l t =
       elim (split x (Exist r k) c (had c h x l t)) [
         | inl y ↦ elim (split x (Plain q.atom) b (had b hb x l t)) [
           | inl isa ↦ (Exist r (key_with (plain q.other) k), s.1 (Exist r (key_with (plain q.other) k)) (inl refl), (y.0, y.1, meets_plain y.0 q.other k y.2 (holds.n4 q m x y.0 isa (goes_up u x y.0 y.1))))
@@ -139,8 +149,9 @@ module _ (n : Normal) (i : Interpretation) (holds : Gives n i) where
       let ec : c ≡ p.clause = ap (λ (w : Entry). w.clause) q in
       let ih : (key : List ℕ) (c : List Elem) → Listed e key c → (x : ℕ) → x < i.size → Meets i x key → TrueClause i x c = derivation_true e v.1 in
       subst (TrueClause i x) (sym ec)
-      (concludes_true p.key (Listed e p.key) (λ r k a. (c : List Elem) × Listed e k c × Eligible n (Plain a) c) (λ r k. Listed e k []) p.clause
+      (concludes_true p.key (Listed e p.key) (told_by n (Listed e)) p.clause
       (λ c h x l t. ih p.key c h x l t)
+      (λ r k a z y l t. single_true i a z.0 z.2.0 y (ih k z.0 z.1 y l t))
       (λ r k z y l t. (ih k [] z y l t).1)
       v.0 x l (subst (Meets i x) ek t))
 

@@ -1,117 +1,70 @@
--- The canonical interpretation of saturated contexts for a named atom, which is least.
-use Rattle.std.specs.Prelude.{◌≡◌, ℕ, zero, suc, ◌<◌, ◌&&◌, ◌||◌, not, Bool, true, false, cond, List, [], ◌∷◌, length, eqb}
+-- The canonical interpretation of saturated contexts.
+use Rattle.std.specs.Prelude.{◌≡◌, ℕ, zero, suc, ◌<◌, ◌||◌, Bool, true, false, cond, List, [], ◌∷◌, length}
 use Rattle.cd_base.specs.Lists.{OneOf, collect}
 use Rattle.cd_base.specs.declared.normal.Normal.{Normal}
 use Rattle.cd_base.specs.declared.normal.Triple.{Triple}
 use Rattle.cd_base.specs.declared.normal.RolePair.{RolePair}
 use Rattle.cd_base.specs.Normal.{Under}
-use Rattle.cd_base.specs.Keys.{plain, is_named}
 use Rattle.cd_meaning.specs.declared.interpretation.Member.{Member as Pair}
 use Rattle.cd_meaning.specs.declared.interpretation.Edge.{Edge}
 use Rattle.cd_meaning.specs.declared.interpretation.Interpretation.{Interpretation}
 use Rattle.cd_meaning.specs.NormalAxioms.{IsNormalModel}
+use Rattle.cd_clause.specs.Covering.{is_as_strong}
 use Rattle.cd_clause.specs.Dictionary.{is_at_most, same_numbers}
 use Rattle.cd_clause.specs.declared.elem.Elem.{Elem}
 use Rattle.cd_clause.specs.declared.elem.Elem.TheVariants.{Plain, Exist}
-use Rattle.cd_clause.specs.Derivations.{IsSingle}
-use Rattle.cd_clause.specs.Elements.{same_elem}
+use Rattle.cd_clause.specs.Elements.{rank}
 use Rattle.cd_model.specs.Saturated.{Saturated}
-use Rattle.cd_model.specs.Meaning.{IsIn}
+use Rattle.cd_model.specs.Meaning.{IsIn, Meets}
 
--- the number is one of these
-abbrev pub has_number : List ℕ → ℕ → Bool
-has_number [] x = false
-has_number (y ∷ ys) x = eqb x y || has_number ys x
-
--- each of the first is one of the second
-abbrev pub is_within : List ℕ → List ℕ → Bool
-is_within [] ys = true
-is_within (x ∷ xs) ys = has_number ys x && is_within xs ys
-
--- an element's rank in the total order, compared in dictionary order: `least` is least, the other named atoms follow by number, then the
--- other atoms, then the existentials
-abbrev pub total_rank : Normal → ℕ → Elem → List ℕ
-total_rank n least (Plain a) =
-    cond (is_named n a) (cond (eqb a least) (0 ∷ []) (0 ∷ a ∷ [])) (1 ∷ a ∷ [])
-total_rank n least (Exist r k) = 2 ∷ r ∷ k
-
--- puts an element into a list that goes from the greatest down
-abbrev pub insert_down : Normal → ℕ → Elem → List Elem → List Elem
-insert_down n least e [] = e ∷ []
-insert_down n least e (f ∷ fs) =
-    cond (is_at_most (total_rank n least f) (total_rank n least e)) (e ∷ f ∷ fs)
-    (f ∷ insert_down n least e fs)
-
--- the elements of a clause from the greatest down
-abbrev pub descending : Normal → ℕ → List Elem → List Elem
-descending n least [] = []
-descending n least (e ∷ es) = insert_down n least e (descending n least es)
-
--- the first of a list
-abbrev pub first : List Elem → Elem
-first [] = Plain 0
-first (e ∷ es) = e
+-- the greatest of an element and others
+abbrev pub greatest_from : Normal → Elem → List Elem → Elem
+greatest_from n e [] = e
+greatest_from n e (f ∷ fs) = greatest_from n (cond (is_at_most (rank n e) (rank n f)) f e) fs
 
 -- the greatest element of a clause
-abbrev pub greatest : Normal → ℕ → List Elem → Elem
-greatest n least c = first (descending n least c)
+abbrev pub greatest : Normal → List Elem → Elem
+greatest n [] = Plain 0
+greatest n (e ∷ es) = greatest_from n e es
 
--- dictionary order of lists of elements
-abbrev pub elems_at_most : Normal → ℕ → List Elem → List Elem → Bool
-elems_at_most n least [] fs = true
-elems_at_most n least (e ∷ es) [] = false
-elems_at_most n least (e ∷ es) (f ∷ fs) =
-    cond (is_at_most (total_rank n least e) (total_rank n least f))
-    (cond (is_at_most (total_rank n least f) (total_rank n least e))
-    (elems_at_most n least es fs) true) false
+-- puts a clause into a list that goes upwards by the greatest elements
+abbrev pub insert : Normal → List Elem → List (List Elem) → List (List Elem)
+insert n c [] = c ∷ []
+insert n c (d ∷ ds) =
+    cond (is_at_most (rank n (greatest n c)) (rank n (greatest n d))) (c ∷ d ∷ ds)
+    (d ∷ insert n c ds)
 
--- clauses are compared as lists of their elements from the greatest down
-abbrev pub clause_at_most : Normal → ℕ → List Elem → List Elem → Bool
-clause_at_most n least c d = elems_at_most n least (descending n least c) (descending n least d)
+-- the clauses, upwards by their greatest elements
+abbrev pub sort : Normal → List (List Elem) → List (List Elem)
+sort n [] = []
+sort n (c ∷ cs) = insert n c (sort n cs)
 
--- puts a clause into a list that goes from the least up
-abbrev pub insert : Normal → ℕ → List Elem → List (List Elem) → List (List Elem)
-insert n least c [] = c ∷ []
-insert n least c (d ∷ ds) = cond (clause_at_most n least c d) (c ∷ d ∷ ds) (d ∷ insert n least c ds)
+-- whether one of these is at least as strong as the element
+abbrev pub is_satisfied : List Elem → Elem → Bool
+is_satisfied [] e = false
+is_satisfied (g ∷ gs) e = is_as_strong g e || is_satisfied gs e
 
--- the clauses from the least up
-abbrev pub sort : Normal → ℕ → List (List Elem) → List (List Elem)
-sort n least [] = []
-sort n least (c ∷ cs) = insert n least c (sort n least cs)
+-- whether one of the clause's elements is satisfied
+abbrev pub has_satisfied : List Elem → List Elem → Bool
+has_satisfied chosen [] = false
+has_satisfied chosen (e ∷ es) = is_satisfied chosen e || has_satisfied chosen es
 
--- whether the element is one of these
-abbrev pub has_elem : List Elem → Elem → Bool
-has_elem [] e = false
-has_elem (f ∷ fs) e = same_elem e f || has_elem fs e
-
--- whether one of the clause's elements is among these
-abbrev pub has_one_of : List Elem → List Elem → Bool
-has_one_of chosen [] = false
-has_one_of chosen (e ∷ es) = has_elem chosen e || has_one_of chosen es
-
--- the clauses are gone through from the least: where none of a clause's elements is chosen yet, its greatest is
-abbrev pub choose : Normal → ℕ → List Elem → List (List Elem) → List Elem
-choose n least chosen [] = chosen
-choose n least chosen (c ∷ cs) =
-    cond (has_one_of chosen c) (choose n least chosen cs)
-    (choose n least (greatest n least c ∷ chosen) cs)
+-- the clauses are gone through upwards: where none of a clause's elements is satisfied yet, its greatest is chosen
+abbrev pub choose : Normal → List Elem → List (List Elem) → List Elem
+choose n chosen [] = chosen
+choose n chosen (c ∷ cs) =
+    cond (has_satisfied chosen c) (choose n chosen cs)
+    (choose n (greatest n c ∷ chosen) cs)
 
 -- the elements chosen in a context
-unfoldable pub chosen : Normal → ℕ → List (List Elem) → List Elem
-chosen n least live = choose n least [] (sort n least live)
+unfoldable pub chosen : Normal → List (List Elem) → List Elem
+chosen n live = choose n [] (sort n live)
 
 -- whether one of the clauses is empty
 abbrev pub has_empty : List (List Elem) → Bool
 has_empty [] = false
 has_empty ([] ∷ cs) = true
 has_empty ((e ∷ es) ∷ cs) = has_empty cs
-
--- no existential of the role among the elements has a proper superset of the key
-abbrev pub is_maximal : ℕ → List ℕ → List Elem → Bool
-is_maximal r k [] = true
-is_maximal r k (Plain a ∷ es) = is_maximal r k es
-is_maximal r k (Exist s l ∷ es) =
-    (not (eqb r s) || (not (is_within k l) || is_within l k)) && is_maximal r k es
 
 -- an element of the interpretation, and the context that it stands for
 pub record Element : Type 0 where
@@ -137,15 +90,13 @@ atoms_at x (Plain a ∷ es) = record { class = a; element = x } ∷ atoms_at x e
 atoms_at x (Exist r k ∷ es) = atoms_at x es
 
 -- the edges from x for one chosen existential
-abbrev pub edges_by : (ℕ → ℕ → Bool) → ℕ → List Element → List Elem → ℕ → Elem → List Edge
-edges_by below roles all es x (Plain a) = []
-edges_by below roles all es x (Exist s k) =
-    cond (is_maximal s k es)
-    (collect (λ (y : Element). cond (same_numbers k y.key)
+abbrev pub edges_by : (ℕ → ℕ → Bool) → ℕ → List Element → ℕ → Elem → List Edge
+edges_by below roles all x (Plain a) = []
+edges_by below roles all x (Exist s k) =
+    collect (λ (y : Element). cond (same_numbers k y.key)
     (collect (λ (r : ℕ). cond (below s r) (record { role = r; source = x; target = y.number }
     ∷ []) []) (numbers_below roles))
-    []) all)
-    []
+    []) all
 
 -- how many elements, the members of atoms and the edges of roles, each a list
 pub record Listing : Type 0 where
@@ -154,17 +105,17 @@ pub record Listing : Type 0 where
   pub edges : List Edge
 
 -- The elements are the contexts without the empty clause. An element is in an atom that is chosen in its context. It has an edge of r to
--- the context of K where, for some s under r, `some s.K` is chosen, and no chosen existential of s has a proper superset of K.
+-- the context of K where, for some s under r, `some s.K` is chosen.
 unfoldable pub canonical : Normal → (ℕ → ℕ → Bool) → List (List ℕ) → (List ℕ → List (List Elem))
-    → ℕ → Listing
-canonical n below keys live least =
+    → Listing
+canonical n below keys live =
     let all : List Element = elements live 0 keys in
     record {
       size = length all;
-      members = collect (λ (x : Element). atoms_at x.number (chosen n least (live x.key))) all;
+      members = collect (λ (x : Element). atoms_at x.number (chosen n (live x.key))) all;
       edges = collect (λ (x : Element). collect
-          (edges_by below n.roles all (chosen n least (live x.key)) x.number)
-          (chosen n least (live x.key))) all;
+          (edges_by below n.roles all x.number)
+          (chosen n (live x.key))) all;
     }
 
 -- the test is the role closure
@@ -177,10 +128,11 @@ pub record RolesInRange (n : Normal) : Type 0 where
   pub n2 : (t : Triple) → OneOf t n.n2 → t.role < n.roles
   pub n5 : (p : RolePair) → OneOf p n.n5 → p.higher < n.roles
 
--- {a} has a context without the empty clause
-pub record Open (keys : List (List ℕ)) (live : List ℕ → List (List Elem)) (a : ℕ) : Type 0 where
-  pub here : OneOf (plain a ∷ []) keys
-  pub open_still : OneOf [] (live (plain a ∷ [])) → ⊥
+-- the key has a context, which is without the empty clause
+pub record IsOpen (keys : List (List ℕ)) (live : List ℕ → List (List Elem))
+    (k : List ℕ) : Type 0 where
+  pub here : OneOf k keys
+  pub open_still : OneOf [] (live k) → ⊥
 
 -- the interpretation has these elements, members and edges
 pub record IsListed (i : Interpretation) (l : Listing) : Type 0 where
@@ -188,24 +140,23 @@ pub record IsListed (i : Interpretation) (l : Listing) : Type 0 where
   pub members : i.classes ≡ l.members
   pub edges : i.roles ≡ l.edges
 
--- The interpretation is a model of the normal axioms, and the element of {a} is in a. Where b is named, it is in b only where {b} is a
--- live clause of {a}.
-pub record IsCounter (n : Normal) (i : Interpretation) (keys : List (List ℕ))
-    (live : List ℕ → List (List Elem)) (b : ℕ) : Type 0 where
-  pub holds : IsNormalModel n i
-  pub element : (a : ℕ) → Open keys live a
-      → record {
-        x : ℕ;
-        below : x < i.size;
-        isin : IsIn i a x;
-        only_single : is_named n b ≡ true
-            → IsIn i b x → IsSingle (live (plain a ∷ [])) b;
-      }
+-- the element meets the key, and is in the atoms that are chosen in the key's context and in no others
+pub record StandsFor (n : Normal) (i : Interpretation) (k : List ℕ) (live : List (List Elem))
+    (x : ℕ) : Type 0 where
+  pub below : x < i.size
+  pub meets : Meets i x k
+  pub chosen : (a : ℕ) → IsIn i a x → OneOf (Plain a) (chosen n live)
 
--- COMPLETENESS: where some {a} is without the empty clause, the canonical interpretation of saturated contexts is a finite model of the
--- normal axioms against each named b that is no live clause of its own in {a}
+-- the interpretation is a model of the normal axioms, and each context without the empty clause has an element that stands for it
+pub record IsCanonical (n : Normal) (i : Interpretation) (keys : List (List ℕ))
+    (live : List ℕ → List (List Elem)) : Type 0 where
+  pub holds : IsNormalModel n i
+  pub element : (k : List ℕ) → IsOpen keys live k → (x : ℕ) × StandsFor n i k (live k) x
+
+-- COMPLETENESS: where some context is without the empty clause, the canonical interpretation of saturated contexts is a finite model of the
+-- normal axioms, in which each context without the empty clause has an element that stands for it
 abbrev pub Completeness : Type 0
 Completeness = (n : Normal) (below : ℕ → ℕ → Bool) → IsClosure n below → RolesInRange n
-    → (keys : List (List ℕ)) (live : List ℕ → List (List Elem)) → Saturated n keys live → (a : ℕ)
-    → Open keys live a → (b : ℕ)
-    → (i : Interpretation) × IsListed i (canonical n below keys live b) × IsCounter n i keys live b
+    → (keys : List (List ℕ)) (live : List ℕ → List (List Elem)) → Saturated n keys live
+    → (k : List ℕ) → IsOpen keys live k
+    → (i : Interpretation) × IsListed i (canonical n below keys live) × IsCanonical n i keys live

@@ -9,16 +9,16 @@ pub fn derived_is_true()
     ensures { Soundness }
 {}
 
-/// Completeness: saturated contexts, one of which is that of an atom and without the empty clause, have a finite model of the normal
-/// axioms, the canonical interpretation. The context of each such atom is an element of the atom in it, and an element of a given named
-/// atom only where that atom's own clause is live in the context.
+/// Completeness: saturated contexts, one of which is without the empty clause, have a finite model of the normal axioms, the canonical
+/// interpretation. Each such context has an element in it that meets the context's key, and is in atoms alone that are chosen there.
 pub fn contexts_have_a_model()
     ensures { Completeness }
 {}
 
 /// Exactness: of saturated contexts whose live clauses are derived, that of an atom has the empty clause exactly where the atom has no
-/// element in any finite model of the normal axioms, and else the clause of a named atom exactly where each element of the one is one of
-/// the other in every finite model.
+/// element in any finite model of the normal axioms. Else each element of it is one of each atom whose own clause is live, in every finite
+/// model, and of no atom that isn't chosen. For the atoms between, the context of the atom and of others that are negated has the empty
+/// clause exactly where each element of the one is one of some of the others.
 pub fn answers_are_exact()
     ensures { Exactness }
 {}

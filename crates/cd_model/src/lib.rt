@@ -9,17 +9,17 @@
 //! - Soundness. Each rule's conclusion is true where its premises are, so what is derived is true in every model, by induction over the
 //!   derivation (`proofs/Sound.antt`).
 //! - The canonical interpretation. Contexts are saturated where each conclusion of every rule is redundant in its context
-//!   (`specs/Saturated.antt`). Of these a finite interpretation is made in three steps (`specs/Canonical.antt`). A total order, which
-//!   extends that of the calculus and has a given named atom least, gives each element of a clause its rank. In each context the live
-//!   clauses are gone through from the least, and of each that has no chosen element yet the greatest is chosen. The contexts without the
-//!   empty clause are the elements of the interpretation: such an element is in the atoms that are chosen in its context, and has edges
-//!   to the contexts of the chosen existentials whose keys are maximal for their role.
-//! - Completeness. Of the clause that made a choice nothing else is chosen (`proofs/Choice.antt`), so a rule from such clauses would have
-//!   an unchosen conclusion unless the axiom holds: the canonical interpretation is a model (`proofs/Model.antt`). The least atom is
-//!   chosen only where its own clause is live, so an atom whose clause is missing in a context is one that the context's element isn't in.
-//! - Exactness. With soundness for the one direction and the canonical interpretation for the other, the context of a named atom says
-//!   exactly which named atoms have each of its elements in every model (`specs/Exactness.antt`), and an answer that is read off it is the
-//!   one true answer (`specs/TrueAnswers.antt`).
+//!   (`specs/Saturated.antt`). Of these a finite interpretation is made (`specs/Canonical.antt`). In each context the live clauses are gone
+//!   through upwards by their greatest elements, and of each the greatest is chosen, where no element is satisfied yet: none that was chosen
+//!   is at least as strong. The contexts without the empty clause are the elements of the interpretation: such an element is in the atoms
+//!   that are chosen in its context, and has edges to the contexts of the existentials that are.
+//! - Completeness. Of the clause that made a choice nothing else is satisfied (`proofs/Choice.antt`), so a rule from such clauses would
+//!   have a conclusion of which nothing is, unless the axiom holds: the canonical interpretation is a model (`proofs/Model.antt`). It
+//!   matters that stronger existentials come first in the order: so no chosen element is at least as strong as another.
+//! - Exactness. With soundness for the one direction and the canonical interpretation for the other (`specs/Exactness.antt`): the named
+//!   atoms whose own clause is live in the context of a named atom have each of its elements in every model, and those that aren't chosen
+//!   there have not. Of those between, some has each element of it exactly where the context of the atom and of them, negated, has the
+//!   empty clause. A class has one true answer (`specs/TrueAnswers.antt`).
 #![tactic(auto)]
 
 mod laws;
