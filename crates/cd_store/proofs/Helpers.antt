@@ -1,10 +1,12 @@
 -- The scans of the live clauses.
-use Rattle.std.proofs.Common.{◌≡◌, ◌↔◌, ℕ, zero, suc, ◌<◌, ◌≤◌, inl, inr, List, [], ◌∷◌, ◌++◌, length, get_or, refl, sym, subst, arith}
+use Rattle.std.proofs.Common.{◌≡◌, ◌↔◌, ℕ, zero, suc, ◌<◌, ◌≤◌, inl, inr, List, [], ◌∷◌, ◌++◌, length, map, get_or, refl, sym, ap, ◌∙◌, subst, arith}
 use Rattle.cd_clause.specs.declared.elem.Elem.{Elem}
 use Rattle.cd_base.specs.Lists.{OneOf}
-use Rattle.cd_base.proofs.Members.{member_left, member_right, member_cases}
-use Rattle.cd_base.proofs.Members.{member_at, member_get}
-use Rattle.cd_store.specs.Sift.{IsSuperset, Leaves, Sifts}
+use Rattle.cd_base.specs.Keys.{code}
+use Rattle.cd_base.specs.declared.lit.Lit.{Lit}
+use Rattle.cd_base.proofs.Members.{member_left, member_right, member_cases, member_at, member_get, map_member}
+use Rattle.cd_store.specs.Filing.{listed, chosen_by, HasChosen}
+use Rattle.cd_store.specs.Sift.{IsCovered, Leaves, Sifts}
 use Rattle.cd_store.specs.Store.{IsAscending}
 use Rattle.cd_store.proofs.Picks.{ascends_append}
 
@@ -50,17 +52,27 @@ sift_drop dead xs ys n s w = record {
     front [] n a = tt
     front (k ∷ ns) n a = (λ m h. a.0 m (member_left m ns (n ∷ []) h), front ns n a.1)
 
--- where the dead ones are the live supersets
-pub sifted : (clauses : List (List Elem)) (c : List Elem) (live dead after : List ℕ) → ((n : ℕ) → OneOf n dead ↔ IsSuperset clauses live c n) → Leaves dead live after → Sifts clauses c live after
+-- where the dead ones are the live covered clauses
+pub sifted : (clauses : List (List Elem)) (c : List Elem) (live dead after : List ℕ) → ((n : ℕ) → OneOf n dead ↔ IsCovered clauses live c n) → Leaves dead live after → Sifts clauses c live after
 sifted clauses c live dead after h s = record {
   kept = λ n m. elim (s.kept n m) [ inl k ↦ inl k | inr d ↦ inr ((h n).0 d).1 ];
   only = λ n m. let o = s.only n m in (o.0, λ w. o.1 ((h n).1 (o.0, w)));
   ascends = s.ascends;
 }
 
--- the number at place i is that of a live superset
-abbrev pub IsSupersetAt : List ℕ → List (List Elem) → List ℕ → List Elem → ℕ → ℕ → Type 0
-IsSupersetAt numbers clauses live c i n = (n ≡ get_or numbers i 0) × IsSuperset clauses live c n
+-- the number at place i is that of a live covered clause
+abbrev pub IsCoveredAt : List ℕ → List (List Elem) → List ℕ → List Elem → ℕ → ℕ → Type 0
+IsCoveredAt numbers clauses live c i n = (n ≡ get_or numbers i 0) × IsCovered clauses live c n
 
-pub superset_place : (numbers : List ℕ) (clauses : List (List Elem)) (live : List ℕ) (c : List Elem) (n : ℕ) → OneOf n numbers × IsSuperset clauses live c n → (i : ℕ) × (i < length numbers) × IsSupersetAt numbers clauses live c i n
-superset_place numbers clauses live c n q = let w = member_at n numbers q.0 in (w.0, w.1, (sym (w.2 0), q.1))
+pub covered_place : (numbers : List ℕ) (clauses : List (List Elem)) (live : List ℕ) (c : List Elem) (n : ℕ) → OneOf n numbers × IsCovered clauses live c n → (i : ℕ) × (i < length numbers) × IsCoveredAt numbers clauses live c i n
+covered_place numbers clauses live c n q = let w = member_at n numbers q.0 in (w.0, w.1, (sym (w.2 0), q.1))
+
+-- a number is in the list of the literal at place i, and P of it
+abbrev pub ChosenAt : List (ℕ × List ℕ) → ℕ → List Lit → (ℕ → Type 0) → ℕ → ℕ → Type 0
+ChosenAt f r lits P i n = ((x : Lit) → OneOf n (listed f (chosen_by r (code (get_or lits i x))))) × P n
+
+pub chosen_place : (f : List (ℕ × List ℕ)) (r : ℕ) (lits : List Lit) (P : ℕ → Type 0) (n : ℕ) → HasChosen f r (map code lits) n → P n → (i : ℕ) × (i < length lits) × ChosenAt f r lits P i n
+chosen_place f r lits P n b p =
+    let w = map_member code b.0 lits b.1 in
+    let at = member_at w.0 lits w.1 in
+    (at.0, at.1, (λ x. subst (λ q. OneOf n (listed f (chosen_by r q))) (w.2 ∙ ap code (sym (at.2 x))) b.2, p))

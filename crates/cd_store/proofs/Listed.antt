@@ -39,12 +39,12 @@ key_place items (x ∷ es) (suc i) p e = key_place items es i p e
 
 -- the list at place i is one of the number
 abbrev pub IsNumberAt : List (ℕ × List ℕ) → ℕ → ℕ → Type 0
-IsNumberAt f i a = get_or (keys_of f) i 0 / 2 ≡ a
+IsNumberAt f i a = get_or (keys_of f) i 0 / 4 ≡ a
 
 pub number_place : (f : List (ℕ × List ℕ)) (a : ℕ) → HasList f a → (i : ℕ) × (i < length (keys_of f)) × IsNumberAt f i a
 number_place f a h = elim h.1 [
-  | inl m ↦ (let w = member_at (a * 2) (keys_of f) (listed_key f (a * 2) h.0 m) in let e : get_or (keys_of f) w.0 0 ≡ a * 2 = w.2 0 in (w.0, w.1, omega arith))
-  | inr m ↦ (let w = member_at (a * 2 + 1) (keys_of f) (listed_key f (a * 2 + 1) h.0 m) in let e : get_or (keys_of f) w.0 0 ≡ a * 2 + 1 = w.2 0 in (w.0, w.1, omega arith))
+  | inl m ↦ (let w = member_at (a * 4) (keys_of f) (listed_key f (a * 4) h.0 m) in let e : get_or (keys_of f) w.0 0 ≡ a * 4 = w.2 0 in (w.0, w.1, omega arith))
+  | inr m ↦ (let w = member_at (a * 4 + 1) (keys_of f) (listed_key f (a * 4 + 1) h.0 m) in let e : get_or (keys_of f) w.0 0 ≡ a * 4 + 1 = w.2 0 in (w.0, w.1, omega arith))
 ]
 
 module _ {V : Type 0} (items : V → List ℕ) where

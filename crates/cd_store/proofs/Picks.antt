@@ -2,12 +2,14 @@
 use Rattle.std.proofs.Common.{◌≡◌, ℕ, ◌+◌, ◌<◌, ◌⊎◌, inl, inr, List, [], ◌∷◌, ◌++◌, length, get_or, reverse, refl, ap, sym, ◌∙◌, subst, arith}
 use Rattle.std.proofs.lemmas.List.{get_or_append_left, reverse-append, length-append}
 use Rattle.cd_clause.specs.declared.elem.Elem.{Elem}
-use Rattle.cd_base.specs.Lists.{OneOf, Within}
+use Rattle.cd_base.specs.Lists.{OneOf}
+use Rattle.cd_clause.specs.Covering.{Covers}
+use Rattle.cd_clause.proofs.Strengths.{covers_refl, covers_trans}
 use Rattle.cd_clause.specs.Derivations.{Redundant}
 use Rattle.cd_base.proofs.Members.{member_left, member_right, member_cases}
 use Rattle.cd_store.specs.Sift.{Sifts}
 use Rattle.cd_clause.specs.Numbers.{picked}
-use Rattle.cd_store.specs.Store.{IsStore, IsNew, IsAdded, IsAscending, ContainsNoEarlier}
+use Rattle.cd_store.specs.Store.{IsStore, IsNew, IsAdded, IsAscending, CoveredByNoEarlier}
 
 pub picked_in : (clauses : List (List Elem)) (ns : List ℕ) (n : ℕ) → OneOf n ns → OneOf (get_or clauses n []) (picked clauses ns)
 picked_in clauses [] n h = elim h [ ]
@@ -44,7 +46,7 @@ store_empty = record { in_range = λ n h. absurd h; ascends = tt; covered = λ c
 pub redundant_after : (w : List Elem) (before after : List (List Elem)) (d : List Elem) → IsAdded w before after → Redundant before d → Redundant after d
 redundant_after w before after d a r = elim (a.kept r.0 r.1) [
   | inl m ↦ (r.0, m, r.2)
-  | inr s ↦ (w, a.isin, λ x m. r.2 x (s x m))
+  | inr s ↦ (w, a.isin, covers_trans w r.0 d s r.2)
 ]
 
 module _ (clauses : List (List Elem)) (live after : List ℕ) (c : List Elem) (s : IsStore clauses live) (sifts : Sifts clauses c live after) (free : Redundant (picked clauses live) c → ⊥) where
@@ -70,12 +72,12 @@ module _ (clauses : List (List Elem)) (live after : List ℕ) (c : List Elem) (s
     kept = λ d h. let r = picked_from clauses live d h in elim (sifts.kept r.0 r.1) [
       | inl k ↦ inl (subst (λ q. OneOf q (picked (clauses ++ c ∷ []) (after ++ length clauses ∷ []))) (same r.0 k ∙ sym r.2)
           (picked_in (clauses ++ c ∷ []) (after ++ length clauses ∷ []) r.0 (member_left r.0 after (length clauses ∷ []) k)))
-      | inr w ↦ inr (subst (λ q. Within c q) (sym r.2) w)
+      | inr w ↦ inr (subst (λ q. Covers c q) (sym r.2) w)
     ];
   }
 
-  pub supersets_die : (d : List Elem) → OneOf d (picked (clauses ++ c ∷ []) (after ++ length clauses ∷ [])) → Within c d → d ≡ c
-  supersets_die d h w = elim (from d h) [ inl e ↦ e | inr r ↦ absurd ((sifts.only r.0 r.1).1 (subst (λ q. Within c q) r.2 w)) ]
+  pub weaker_die : (d : List Elem) → OneOf d (picked (clauses ++ c ∷ []) (after ++ length clauses ∷ [])) → Covers c d → d ≡ c
+  weaker_die d h w = elim (from d h) [ inl e ↦ e | inr r ↦ absurd ((sifts.only r.0 r.1).1 (subst (λ q. Covers c q) r.2 w)) ]
 
   only_last : (n : ℕ) → OneOf n (length clauses ∷ []) → n ≡ length clauses
   only_last n h = elim h [ inl e ↦ e | inr z ↦ absurd z ]
@@ -83,11 +85,11 @@ module _ (clauses : List (List Elem)) (live after : List ℕ) (c : List Elem) (s
   last_is : (n : ℕ) → OneOf n (length clauses ∷ []) → get_or (clauses ++ c ∷ []) n [] ≡ c
   last_is n h = ap (λ k. get_or (clauses ++ c ∷ []) k []) (only_last n h) ∙ get_last clauses c
 
-  between : (m k : ℕ) → OneOf m after ⊎ OneOf m (length clauses ∷ []) → OneOf k after ⊎ OneOf k (length clauses ∷ []) → Within (get_or (clauses ++ c ∷ []) m []) (get_or (clauses ++ c ∷ []) k []) → m ≡ k
-  between m k (inl a) (inl b) w = s.minimal m k (sifts.only m a).0 (sifts.only k b).0 (subst (λ q. Within q (get_or clauses k [])) (same m a) (subst (λ q. Within (get_or (clauses ++ c ∷ []) m []) q) (same k b) w))
+  between : (m k : ℕ) → OneOf m after ⊎ OneOf m (length clauses ∷ []) → OneOf k after ⊎ OneOf k (length clauses ∷ []) → Covers (get_or (clauses ++ c ∷ []) m []) (get_or (clauses ++ c ∷ []) k []) → m ≡ k
+  between m k (inl a) (inl b) w = s.minimal m k (sifts.only m a).0 (sifts.only k b).0 (subst (λ q. Covers q (get_or clauses k [])) (same m a) (subst (λ q. Covers (get_or (clauses ++ c ∷ []) m []) q) (same k b) w))
   between m k (inl a) (inr b) w =
-      absurd (free (get_or clauses m [], picked_in clauses live m (sifts.only m a).0, subst (λ q. Within q c) (same m a) (subst (λ q. Within (get_or (clauses ++ c ∷ []) m []) q) (last_is k b) w)))
-  between m k (inr a) (inl b) w = absurd ((sifts.only k b).1 (subst (λ q. Within q (get_or clauses k [])) (last_is m a) (subst (λ q. Within (get_or (clauses ++ c ∷ []) m []) q) (same k b) w)))
+      absurd (free (get_or clauses m [], picked_in clauses live m (sifts.only m a).0, subst (λ q. Covers q c) (same m a) (subst (λ q. Covers (get_or (clauses ++ c ∷ []) m []) q) (last_is k b) w)))
+  between m k (inr a) (inl b) w = absurd ((sifts.only k b).1 (subst (λ q. Covers q (get_or clauses k [])) (last_is m a) (subst (λ q. Covers (get_or (clauses ++ c ∷ []) m []) q) (same k b) w)))
   between m k (inr a) (inr b) w = only_last m a ∙ sym (only_last k b)
 
   pub is_store : IsStore (clauses ++ c ∷ []) (after ++ length clauses ∷ [])
@@ -101,10 +103,10 @@ module _ (clauses : List (List Elem)) (live after : List ℕ) (c : List Elem) (s
     ascends = ascends_append after (length clauses) (sifts.ascends s.ascends) (λ m h. s.in_range m (sifts.only m h).0);
     covered = λ d h. elim (member_cases d clauses (c ∷ []) h) [
       | inl k ↦ redundant_after c (picked clauses live) (picked (clauses ++ c ∷ []) (after ++ length clauses ∷ [])) d is_added (s.covered d k)
-      | inr k ↦ elim k [ inl e ↦ (c, isin, subst (λ q. Within c q) (sym e) (λ x m. m)) | inr z ↦ absurd z ]
+      | inr k ↦ elim k [ inl e ↦ (c, isin, subst (λ q. Covers c q) (sym e) (covers_refl c)) | inr z ↦ absurd z ]
     ];
-    apart = subst ContainsNoEarlier (sym (reverse-append clauses (c ∷ [])))
-        (λ d h w. let r = s.covered d (member_reverse clauses d h) in free (r.0, r.1, λ x m. w x (r.2 x m)), s.apart);
+    apart = subst CoveredByNoEarlier (sym (reverse-append clauses (c ∷ [])))
+        (λ d h w. let r = s.covered d (member_reverse clauses d h) in free (r.0, r.1, covers_trans r.0 d c r.2 w), s.apart);
   }
 
 module _ (clauses new_clauses : List (List Elem)) (live after new_live : List ℕ) (c : List Elem) (n : ℕ) (s : IsStore clauses live) (sifts : Sifts clauses c live after) (free : Redundant (picked clauses live) c → ⊥)
@@ -124,6 +126,6 @@ module _ (clauses new_clauses : List (List Elem)) (live after new_live : List �
       | inl i ↦ inr ((sifts.only m i).0, s.in_range m (sifts.only m i).0)
       | inr i ↦ elim i [ inl j ↦ inl (j ∙ sym k) | inr z ↦ absurd z ]
     ];
-    supersets = supersets_die clauses live after c s sifts free;
+    weaker = weaker_die clauses live after c s sifts free;
     not_held = free;
   })

@@ -1,5 +1,5 @@
+pub mod Coverings
 pub mod Filing
 pub mod LookUps
 pub mod Sift
 pub mod Store
-pub mod Subsets

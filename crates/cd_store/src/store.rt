@@ -1,17 +1,18 @@
 //! The store of a context.
-ghost use Rattle.std.specs.Prelude.{◌≡◌, ◌<◌, ◌↔◌, ◌∷◌, ◌++◌, ◌⊎◌, ◌^◌, ℕ, List, [], length, true, IfOk, IfSome, OnOk, OnErr};
+ghost use Rattle.std.specs.Prelude.{◌≡◌, ◌<◌, ◌↔◌, ◌∷◌, ◌++◌, ◌⊎◌, ◌^◌, ℕ, List, [], length, map, true, IfOk, IfSome, OnOk, OnErr};
+ghost use Rattle.cd_base.specs.Keys.{code};
 ghost use Rattle.cd_base.specs.Lists.{OneOf};
 ghost use Rattle.cd_clause.specs.declared.elem.Elem.{Elem};
 ghost use Rattle.cd_clause.specs.declared.elem.Elem.TheVariants.{Exist, Plain};
-ghost use Rattle.cd_store.specs.Filing.{AreFiled};
+ghost use Rattle.cd_store.specs.Filing.{AreFiled, HasChosen, HasWeakerUnder};
 ghost use Rattle.cd_store.specs.LookUps.{Gains, HasElem, HasExistential};
-ghost use Rattle.cd_store.specs.Sift.{IsSuperset, Leaves, Sifts};
+ghost use Rattle.cd_store.specs.Sift.{IsCovered, Leaves, Sifts};
 ghost use Rattle.cd_store.specs.Store.{IsStore, IsOutcome};
 
+use crate::coverings::{find_covering, is_among};
 use crate::filing::Filing;
-use crate::subsets::{find_subset, is_among};
-use cd_base::{Atom, Key, Memory, Role};
-use cd_clause::Clause;
+use cd_base::{Atom, Key, Lit, Memory, Role};
+use cd_clause::{Clause, Elem};
 use std::alloc::Global;
 use std::marker::Model;
 
@@ -23,7 +24,7 @@ const FEW: usize = 8;
 pub enum Added {
     /// The clause is stored under this number, and live.
     New(usize),
-    /// The live clause of this number, the least such, is a subset. Nothing changed.
+    /// The live clause of this number, the least such, covers it. Nothing changed.
     Held(usize),
 }
 
@@ -59,7 +60,7 @@ impl Store {
         }
     }
 
-    /// All clauses, live or dead, by number. No clause contains one of a lower number. Constant time.
+    /// All clauses, live or dead, by number. No clause covers one of a higher number. Constant time.
     pub fn clauses(&self) -> &[Clause]
         ensures value { result.now ≡ self.now.clauses }
         ensures store { IsStore self.now.clauses self.now.live }
@@ -67,8 +68,8 @@ impl Store {
         &self.clauses
     }
 
-    /// The numbers of the live clauses, ascending. Every clause that was ever added has a live subset, and no live clause contains another.
-    /// Constant time.
+    /// The numbers of the live clauses, ascending. Every clause that was ever added is covered by a live one, and no live clause covers
+    /// another. Constant time.
     pub fn live(&self) -> &[usize]
         ensures value { result.now ≡ self.now.live }
         ensures store { IsStore self.now.clauses self.now.live }
@@ -84,16 +85,17 @@ impl Store {
         is_among(&self.live, number)
     }
 
-    /// Stores the clause under the next number and makes it live, and makes its live supersets dead; or changes nothing, where a live
-    /// clause is a subset of it. A look-up for each element of the clause; for each stored clause that may end in an
-    /// element of it or have its last one, logarithmic in the live ones, and a walk over both where that one is live; and where
-    /// supersets die, a walk over the numbers of the live ones, or, where many die at once, over the clause and each live one.
+    /// Stores the clause under the next number and makes it live, and makes the live clauses that it covers dead; or changes nothing, where
+    /// a live clause covers it. For each element of the clause a look-up, or one for each literal of its key; as many for the last once
+    /// more; for each stored clause found by them, logarithmic in the live ones, and a walk over both where that one is live; what
+    /// `Filing::file` costs; and where clauses die, a walk over the numbers of the live ones, or, where many die at once, over the clause
+    /// and each live one.
     pub fn add(&mut self, alloc: Global, clause: Clause) -> Result<Added, Memory>
         ensures ok { IfOk result (λ a. IsOutcome self.old clause self.new a) }
         ensures err { OnErr result (self.new ≡ self.old) }
         ensures store { IsStore self.new.clauses self.new.live }
     {
-        if let Some(i) = find_subset(&self.filing, &self.clauses, &self.live, &clause) {
+        if let Some(i) = find_covering(&self.filing, &self.clauses, &self.live, &clause) {
             return Ok(Added::Held(i));
         }
         let number = self.clauses.len();
@@ -158,8 +160,8 @@ impl Store {
         Ok(())
     }
 
-    /// Numbers, those of all atoms of stored clauses among them, each at most twice; `None` where there are more than `at_most` of them, which
-    /// is a matter of cost alone. Linear in them.
+    /// Numbers, those of all atoms of stored clauses among them, each at most four times, and others, above those of atoms; `None` where
+    /// there are more than `at_most` of them, which is a matter of cost alone. Linear in them.
     pub fn atom_numbers(&self, alloc: Global, at_most: usize) -> Result<Option<Vec<u64>>, Memory>
         ensures { IfOk result (λ some.
             IfSome some (λ numbers. (a n : ℕ) → HasElem self.now.clauses (Plain a) n
@@ -174,8 +176,8 @@ impl Store {
     }
 }
 
-/// Makes the live supersets of the clause dead, and this number live. Costs what `live_supersets` does, and what `sift` does only where a
-/// superset is live. After `Memory` nothing has changed.
+/// Makes the live clauses that the clause covers dead, and this number live. Costs what `live_covered` does, and what `sift` does only
+/// where one of them is live. After `Memory` nothing has changed.
 fn replace(
     alloc: Global,
     filing: &Filing,
@@ -190,7 +192,7 @@ fn replace(
         × (live.new.items ≡ after ++ number ∷ [])) }
     ensures err { OnErr result (live.new.items ≡ live.old.items) }
 {
-    let dead = live_supersets(alloc, filing, clauses, live.as_slice(), clause)?;
+    let dead = live_covered(alloc, filing, clauses, live.as_slice(), clause)?;
     if dead.as_slice().is_empty() {
         live.push(number)?;
         return Ok(());
@@ -201,9 +203,8 @@ fn replace(
     Ok(())
 }
 
-/// The live numbers whose clause is a superset. One look-up twice; for each clause that may have the last element of this one, the cost of
-/// `is_superset`.
-fn live_supersets(
+/// The live numbers whose clause the clause covers. Costs what `push_weaker` does.
+fn live_covered(
     alloc: Global,
     filing: &Filing,
     clauses: &[Clause],
@@ -213,22 +214,82 @@ fn live_supersets(
     requires store { IsStore clauses.now live.now }
     requires filed { AreFiled filing.now clauses.now }
     ensures { IfOk result (λ dead. (n : ℕ) → OneOf n dead.items
-        ↔ IsSuperset clauses.now live.now clause.now n) }
+        ↔ IsCovered clauses.now live.now clause.now n) }
 {
     let mut dead = Vec::new(alloc);
     match clause.elems().last() {
-        None => push_supersets(clauses, live, clause, live, &mut dead)?,
-        Some(last) => {
-            push_supersets(clauses, live, clause, filing.ending_in(last), &mut dead)?;
-            push_supersets(clauses, live, clause, filing.going_on_from(last), &mut dead)?;
-        }
+        None => push_covered(clauses, live, clause, live, &mut dead)?,
+        Some(last) => push_weaker(filing, clauses, live, clause, last, &mut dead)?,
     }
     Ok(dead)
 }
 
-/// Appends those of these numbers that are those of live supersets. For each logarithmic in the live numbers, and one walk over both
-/// clauses.
-fn push_supersets(
+/// Appends those of the live clauses with an element that this one is at least as strong as that the clause covers. Two look-ups, or one
+/// for each literal of its key and one; and for each clause found by them, the cost of `is_covered`.
+fn push_weaker(
+    filing: &Filing,
+    clauses: &[Clause],
+    live: &[usize],
+    clause: &Clause,
+    elem: &Elem,
+    found: &mut Vec<usize>,
+) -> Result<(), Memory>
+    requires { IsStore clauses.now live.now }
+    ensures every { OnOk result (Gains (λ n. HasWeakerUnder filing.now elem.now n
+        × IsCovered clauses.now live.now clause.now n) found.old.items found.new.items) }
+    ensures only { OnOk result ((n : ℕ) → OneOf n found.new.items
+        → OneOf n found.old.items ⊎ IsCovered clauses.now live.now clause.now n) }
+{
+    match elem {
+        Elem::Plain(atom) => {
+            push_covered(clauses, live, clause, filing.ending_in_atom(*atom), found)?;
+            push_covered(
+                clauses,
+                live,
+                clause,
+                filing.going_on_from_atom(*atom),
+                found,
+            )
+        }
+        Elem::Exist(role, key) => {
+            push_covered(clauses, live, clause, filing.with_empty_keys(), found)?;
+            push_smaller(filing, clauses, live, clause, *role, key.lits(), found)
+        }
+    }
+}
+
+/// Appends those of the live clauses with an existential of the role, filed under one of these literals of its key, that the clause covers.
+/// One look-up for each literal; and for each clause found by them, the cost of `is_covered`.
+fn push_smaller(
+    filing: &Filing,
+    clauses: &[Clause],
+    live: &[usize],
+    clause: &Clause,
+    role: Role,
+    lits: &[Lit],
+    found: &mut Vec<usize>,
+) -> Result<(), Memory>
+    requires { IsStore clauses.now live.now }
+    ensures every { OnOk result (Gains (λ n. HasChosen filing.now role (map code lits.now) n
+        × IsCovered clauses.now live.now clause.now n) found.old.items found.new.items) }
+    ensures only { OnOk result ((n : ℕ) → OneOf n found.new.items
+        → OneOf n found.old.items ⊎ IsCovered clauses.now live.now clause.now n) }
+{
+    'lits: for i in 0..lits.len() {
+        push_covered(
+            clauses,
+            live,
+            clause,
+            filing.chosen_by(role, &lits[i]),
+            found,
+        )?;
+    }
+    Ok(())
+}
+
+/// Appends those of these numbers that are those of live clauses that the clause covers. For each logarithmic in the live numbers, and one
+/// walk over both clauses.
+fn push_covered(
     clauses: &[Clause],
     live: &[usize],
     clause: &Clause,
@@ -237,31 +298,31 @@ fn push_supersets(
 ) -> Result<(), Memory>
     requires { IsStore clauses.now live.now }
     ensures every { OnOk result (Gains (λ n. OneOf n numbers.now
-        × IsSuperset clauses.now live.now clause.now n) found.old.items found.new.items) }
+        × IsCovered clauses.now live.now clause.now n) found.old.items found.new.items) }
     ensures only { OnOk result ((n : ℕ) → OneOf n found.new.items
-        → OneOf n found.old.items ⊎ IsSuperset clauses.now live.now clause.now n) }
+        → OneOf n found.old.items ⊎ IsCovered clauses.now live.now clause.now n) }
 {
     'numbers: for i in 0..numbers.len() {
         let number = numbers[i];
-        if is_superset(clauses, live, clause, number) {
+        if is_covered(clauses, live, clause, number) {
             found.push(number)?;
         }
     }
     Ok(())
 }
 
-/// Whether the number is live and its clause a superset. Logarithmic in the live numbers, and one walk over both clauses.
-fn is_superset(clauses: &[Clause], live: &[usize], clause: &Clause, number: usize) -> bool
+/// Whether the number is live and the clause covers its clause. Logarithmic in the live numbers, and one walk over both clauses.
+fn is_covered(clauses: &[Clause], live: &[usize], clause: &Clause, number: usize) -> bool
     requires { IsStore clauses.now live.now }
-    ensures { (result ≡ true) ↔ IsSuperset clauses.now live.now clause.now number }
+    ensures { (result ≡ true) ↔ IsCovered clauses.now live.now clause.now number }
 {
     if !is_among(live, number) {
         return false;
     }
-    clause.within(&clauses[number])
+    clause.covers(&clauses[number])
 }
 
-/// The live numbers that are not among the dead ones, which are all live supersets of the clause. Costs `is_dead` for each.
+/// The live numbers that are not among the dead ones, which are all live ones that the clause covers. Costs `is_dead` for each.
 fn sift(
     alloc: Global,
     clauses: &[Clause],
@@ -270,7 +331,7 @@ fn sift(
     dead: &[usize],
 ) -> Result<Vec<usize>, Memory>
     requires range { (n : ℕ) → OneOf n live.now → n < length clauses.now }
-    requires dead { (n : ℕ) → OneOf n dead.now ↔ IsSuperset clauses.now live.now clause.now n }
+    requires dead { (n : ℕ) → OneOf n dead.now ↔ IsCovered clauses.now live.now clause.now n }
     ensures { IfOk result (λ after. Leaves dead.now live.now after.items) }
 {
     let mut after = Vec::with_capacity(alloc, live.len())?;
@@ -293,11 +354,11 @@ fn is_dead(
 ) -> bool
     requires range { number < length clauses.now }
     requires live { OneOf number live.now }
-    requires dead { (n : ℕ) → OneOf n dead.now ↔ IsSuperset clauses.now live.now clause.now n }
+    requires dead { (n : ℕ) → OneOf n dead.now ↔ IsCovered clauses.now live.now clause.now n }
     ensures { (result ≡ true) ↔ OneOf number dead.now }
 {
     if dead.len() <= FEW {
         return dead.contains(&number);
     }
-    clause.within(&clauses[number])
+    clause.covers(&clauses[number])
 }

@@ -7,8 +7,8 @@ use Rattle.cd_store.proofs.filing.Filing.push_numbers.Goals as goal
 pub lists-preserved : goal.lists-preserved
 lists-preserved c =
     gain_goes (IsNumberAt c.args.self.now) c.lists.i c.args.numbers.now.items c.lists.numbers.items c.push.new.self.items c.lists.invariant
-    (gain_list (IsNumberAt c.args.self.now c.lists.i) c.lists.numbers.items c.push.new.self.items (c.key_at.result / 2 ∷ []) c.in_ok-push.ensures.items
-    (λ a e. let at : c.key_at.result ≡ get_or (keys_of c.args.self.now) c.lists.i 0 = c.key_at.ensures in inl (sym (ap (λ (k : ℕ). k / 2) at ∙ e))))
+    (gain_list (IsNumberAt c.args.self.now c.lists.i) c.lists.numbers.items c.push.new.self.items (c.key_at.result / 4 ∷ []) c.in_ok-push.ensures.items
+    (λ a e. let at : c.key_at.result ≡ get_or (keys_of c.args.self.now) c.lists.i 0 = c.key_at.ensures in inl (sym (ap (λ (k : ℕ). k / 4) at ∙ e))))
 
 pub returns : goal.returns
 returns c =
