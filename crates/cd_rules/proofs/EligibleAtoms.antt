@@ -24,7 +24,7 @@ HasExist c = (r : ℕ) × (k : List ℕ) × OneOf (Exist r k) c
 -- no atom is eligible beside an existential
 pub exist_above : (n : Normal) (a : ℕ) (c : List Elem) → HasExist c → Eligible n (Plain a) c → ⊥
 exist_above n a c h e =
-    cond_both (is_named n a) (0 ∷ []) (1 ∷ a ∷ []) (λ z. is_at_most (2 ∷ h.0 ∷ h.1) z ≡ true → ⊥)
+    cond_both (is_named n a) (0 ∷ a ∷ []) (1 ∷ a ∷ []) (λ z. is_at_most (2 ∷ h.0 ∷ h.1) z ≡ true → ⊥)
     (λ t q. false≢true q) (λ t q. false≢true q)
     (e.top (Exist h.0 h.1) h.2)
 

@@ -7,7 +7,7 @@ use Rattle.cd_base.specs.declared.normal.Normal.{Normal}
 use Rattle.cd_base.proofs.Members.{member_at, member_get}
 use Rattle.cd_clause.specs.declared.elem.Elem.{Elem}
 use Rattle.cd_clause.specs.declared.elem.Elem.TheVariants.{Plain}
-use Rattle.cd_clause.specs.Rules.{Rests, by_init, by_neg, by_con, by_ex, by_back, by_dead, by_all}
+use Rattle.cd_clause.specs.Rules.{Rests, by_init, by_neg, by_con, by_ex, by_back, by_sure, by_dead, by_all}
 use Rattle.cd_index.specs.Index.{free_numbers, is_free, left_of}
 use Rattle.cd_index.proofs.Numbers.{left_is}
 use Rattle.cd_rules.specs.Parts.{IsRightOf, right_of}
@@ -70,5 +70,6 @@ key_concluded n key d (by_con x m k r s) =
     inr (x, k, none_left.0, subst (λ (l : List Elem). SameSet d (l ++ map Plain x.right)) none_left.1 s)
 key_concluded n key d (by_ex t c m h e s) = absurd h
 key_concluded n key d (by_back t c r k m h e b u s) = absurd h
+key_concluded n key d (by_sure t c r k m h e b u s) = absurd h
 key_concluded n key d (by_dead c r k h e b s) = absurd h
 key_concluded n key d (by_all t c b r k m h e hb eb u s) = absurd h

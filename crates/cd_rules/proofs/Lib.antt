@@ -22,6 +22,7 @@ pub mod Places
 pub mod Pushed
 pub mod SameSets
 pub mod Searched
+pub mod Sures
 pub mod Tried
 pub mod Using
 pub mod Without

@@ -6,13 +6,12 @@ use Rattle.cd_base.specs.declared.normal.Normal.{Normal}
 use Rattle.cd_clause.specs.Elements.{rest}
 use Rattle.cd_clause.specs.declared.elem.Elem.{Elem}
 use Rattle.cd_clause.specs.declared.elem.Elem.TheVariants.{Plain, Exist}
-use Rattle.cd_rules.specs.declared.facts.BackFact.{BackFact}
-use Rattle.cd_rules.specs.declared.facts.DeadFact.{DeadFact}
+use Rattle.cd_rules.specs.Facts.{ToldFacts}
 use Rattle.cd_rules.specs.Elems.{IsOfElem}
-use Rattle.cd_rules.specs.Steps.{IsNeg, IsEx, IsCon, IsAllOfAtom, IsAllOfExist, IsBackFrom, IsDeadFrom}
+use Rattle.cd_rules.specs.Steps.{IsNeg, IsEx, IsCon, IsAllOfAtom, IsAllOfExist, IsBackFrom, IsSureFrom, IsDeadFrom}
 use Rattle.cd_rules.proofs.SameSets.{same_set_refl, same_set_trans, same_set_cons, same_set_append}
 
-module _ (n : Normal) (key : List ℕ) (Has : List Elem → Type 0) (backs : List BackFact) (deads : List DeadFact) (m w : List Elem) (s : SameSet m w) (d : List Elem) where
+module _ (n : Normal) (key : List ℕ) (Has : List Elem → Type 0) (facts : ToldFacts) (m w : List Elem) (s : SameSet m w) (d : List Elem) where
   neg_same : (a : ℕ) → IsNeg key a m d → IsNeg key a w d
   neg_same a p = (p.0, same_set_trans d m w p.1 s)
 
@@ -46,7 +45,7 @@ module _ (n : Normal) (key : List ℕ) (Has : List Elem → Type 0) (backs : Lis
       let t = same_set_cons e (m ++ o) (w ++ o) (same_set_append m o w o s (same_set_refl o)) in
       (p.0, p.1, p.2, (b, p.3.1, p.3.2, same_set_trans d (e ∷ (m ++ o)) (e ∷ (w ++ o)) p.3.3 t))
 
-  back_same : (r : ℕ) (k : List ℕ) → IsBackFrom n backs r k m d → IsBackFrom n backs r k w d
+  back_same : (r : ℕ) (k : List ℕ) → IsBackFrom n facts.backs r k m d → IsBackFrom n facts.backs r k w d
   back_same r k p =
       let q = p.2 in
       let b = Plain q.0.other in
@@ -54,15 +53,22 @@ module _ (n : Normal) (key : List ℕ) (Has : List Elem → Type 0) (backs : Lis
       let t = same_set_cons b (e ∷ m) (e ∷ w) (same_set_cons e m w s) in
       (p.0, p.1, (q.0, q.1, q.2, q.3, same_set_trans d (b ∷ e ∷ m) (b ∷ e ∷ w) q.4 t))
 
-  dead_same : (r : ℕ) (k : List ℕ) → IsDeadFrom deads r k m d → IsDeadFrom deads r k w d
+  sure_same : (r : ℕ) (k : List ℕ) → IsSureFrom n facts.sures r k m d → IsSureFrom n facts.sures r k w d
+  sure_same r k p =
+      let q = p.2 in
+      let b = Plain q.0.other in
+      (p.0, p.1, (q.0, q.1, q.2, q.3, same_set_trans d (b ∷ m) (b ∷ w) q.4 (same_set_cons b m w s)))
+
+  dead_same : (r : ℕ) (k : List ℕ) → IsDeadFrom facts.deads r k m d → IsDeadFrom facts.deads r k w d
   dead_same r k p = (p.0, same_set_trans d m w p.1 s)
 
   -- all rules for an element
-  pub of_elem_same : (e : Elem) → IsOfElem n key Has backs deads e m d → IsOfElem n key Has backs deads e w d
+  pub of_elem_same : (e : Elem) → IsOfElem n key Has facts e m d → IsOfElem n key Has facts e w d
   of_elem_same (Plain a) (inl p) = inl (neg_same a p)
   of_elem_same (Plain a) (inr (inl p)) = inr (inl (ex_same a p))
   of_elem_same (Plain a) (inr (inr (inl p))) = inr (inr (inl (con_same a p)))
   of_elem_same (Plain a) (inr (inr (inr p))) = inr (inr (inr (all_of_atom_same a p)))
   of_elem_same (Exist r k) (inl p) = inl (back_same r k p)
-  of_elem_same (Exist r k) (inr (inl p)) = inr (inl (dead_same r k p))
-  of_elem_same (Exist r k) (inr (inr p)) = inr (inr (all_of_exist_same r k p))
+  of_elem_same (Exist r k) (inr (inl p)) = inr (inl (sure_same r k p))
+  of_elem_same (Exist r k) (inr (inr (inl p))) = inr (inr (inl (dead_same r k p)))
+  of_elem_same (Exist r k) (inr (inr (inr p))) = inr (inr (inr (all_of_exist_same r k p)))

@@ -6,10 +6,8 @@ use Rattle.cd_base.specs.declared.normal.Normal.{Normal}
 use Rattle.cd_clause.specs.declared.elem.Elem.{Elem}
 use Rattle.cd_clause.specs.declared.elem.Elem.TheVariants.{Plain, Exist}
 use Rattle.cd_clause.specs.Elements.{Eligible, rest}
-use Rattle.cd_clause.specs.Rules.{Rests, Concludes, by_init, by_neg, by_con, by_ex, by_back, by_dead, by_all}
-use Rattle.cd_rules.specs.declared.facts.BackFact.{BackFact}
-use Rattle.cd_rules.specs.declared.facts.DeadFact.{DeadFact}
-use Rattle.cd_rules.specs.Facts.{IsBack, IsDead, IsPicked}
+use Rattle.cd_clause.specs.Rules.{Rests, by_init, by_neg, by_con, by_ex, by_back, by_sure, by_dead, by_all}
+use Rattle.cd_rules.specs.Facts.{IsBack, IsSure, IsPicked, ToldFacts, told_from, ConcludesFrom}
 use Rattle.cd_rules.specs.Elems.{IsOfElem}
 use Rattle.cd_rules.specs.Steps.{IsWithoutOne, IsOfAtom, IsOfExist}
 use Rattle.cd_rules.specs.Uses.{RestsUse, Uses, FromClause}
@@ -91,13 +89,13 @@ module _ (n : Normal) (Has : List Elem → Type 0) (p : List Elem) where
   put : (a : ℕ) (left taken : List ℕ) (m : List Elem) → Has p → Eligible n (Plain a) p → IsWithoutOne a left taken → Rests n Has taken m → Put a left m
   put a left taken m h e w r = subst (λ l. Put a l m) (sym w.2) (put_at a h e w.0 w.1 m (subst (λ l. Rests n Has l m) w.3 r))
 
-module _ (n : Normal) (key : List ℕ) (Has : List Elem → Type 0) (backs : List BackFact) (deads : List DeadFact) (p d : List Elem) where
+module _ (n : Normal) (key : List ℕ) (Has : List Elem → Type 0) (facts : ToldFacts) (p d : List Elem) where
   -- some rule has the conclusion for an eligible element of the clause
   abbrev pub IsOfSome : Type 0
-  IsOfSome = (e : Elem) × Eligible n e p × IsOfElem n key Has backs deads e (rest e p) d
+  IsOfSome = (e : Elem) × Eligible n e p × IsOfElem n key Has facts e (rest e p) d
 
   -- each conclusion that uses the clause, by its rule
-  of_some : (q : Concludes n key Has (IsBack backs) (IsDead deads) d) → Uses n key Has (IsBack backs) (IsDead deads) d q p → IsOfSome
+  of_some : (q : ConcludesFrom n key Has facts d) → Uses n key Has (told_from facts) d q p → IsOfSome
   of_some (by_init a m s) u = absurd u
   of_some (by_neg a c h e m s) u = (Plain a, subst (Eligible n (Plain a)) u e, inl (m, subst (λ w. SameSet d (rest (Plain a) w)) u s))
   of_some (by_con x m k r s) u =
@@ -124,11 +122,13 @@ module _ (n : Normal) (key : List ℕ) (Has : List Elem → Type 0) (backs : Lis
       (Plain t.atom, subst (Eligible n (Plain t.atom)) u e, inr (inl (t, m, refl, subst (λ w. SameSet d (Exist t.role (plain t.other ∷ []) ∷ rest (Plain t.atom) w)) u s)))
   of_some (by_back t c r k m h e b v s) u =
       (Exist r k, subst (Eligible n (Exist r k)) u e, inl (t.atom, b, (t, m, refl, v, subst (λ w. SameSet d (Plain t.other ∷ Exist r (key_with (negated t.atom) k) ∷ rest (Exist r k) w)) u s)))
-  of_some (by_dead c r k h e b s) u = (Exist r k, subst (Eligible n (Exist r k)) u e, inr (inl (b, subst (λ w. SameSet d (rest (Exist r k) w)) u s)))
+  of_some (by_sure t c r k m h e b v s) u =
+      (Exist r k, subst (Eligible n (Exist r k)) u e, inr (inl (t.atom, b, (t, m, refl, v, subst (λ w. SameSet d (Plain t.other ∷ rest (Exist r k) w)) u s))))
+  of_some (by_dead c r k h e b s) u = (Exist r k, subst (Eligible n (Exist r k)) u e, inr (inr (inl (b, subst (λ w. SameSet d (rest (Exist r k) w)) u s))))
   of_some (by_all t c b r k m h e hb eb v s) (inl u) = (
     Exist r k,
     subst (Eligible n (Exist r k)) u e,
-    inr (inr (
+    inr (inr (inr (
       t,
       m,
       v,
@@ -138,7 +138,7 @@ module _ (n : Normal) (key : List ℕ) (Has : List Elem → Type 0) (backs : Lis
         eb,
         subst (λ w. SameSet d (Exist r (key_with (plain t.other) k) ∷ (rest (Exist r k) w ++ rest (Plain t.atom) b))) u s,
       ),
-    )),
+    ))),
   )
   of_some (by_all t c b r k m h e hb eb v s) (inr u) = (
     Plain t.atom,
@@ -163,7 +163,7 @@ module _ (n : Normal) (key : List ℕ) (Has : List Elem → Type 0) (backs : Lis
 
   -- the conclusion of a rule, and that it uses the clause
   abbrev pub IsFrom : Type 0
-  IsFrom = (q : Concludes n key Has (IsBack backs) (IsDead deads) d) × Uses n key Has (IsBack backs) (IsDead deads) d q p
+  IsFrom = (q : ConcludesFrom n key Has facts d) × Uses n key Has (told_from facts) d q p
 
   -- the rules for an atom, one by one
   from_atom : (a : ℕ) → Has p → Eligible n (Plain a) p → IsOfAtom n key Has a (rest (Plain a) p) d → IsFrom
@@ -192,29 +192,33 @@ module _ (n : Normal) (key : List ℕ) (Has : List Elem → Type 0) (backs : Lis
       )
 
   -- the rules for an existential, one by one
-  from_exist : (r : ℕ) (k : List ℕ) → Has p → Eligible n (Exist r k) p → IsOfExist n Has backs deads r k (rest (Exist r k) p) d → IsFrom
+  from_exist : (r : ℕ) (k : List ℕ) → Has p → Eligible n (Exist r k) p → IsOfExist n Has facts r k (rest (Exist r k) p) d → IsFrom
   from_exist r k h e (inl q) =
       let z = q.2 in
       let t = z.0 in (
-        by_back t p r k z.1 h e (subst (IsBack backs r k) (sym z.2) q.1) z.3
+        by_back t p r k z.1 h e (subst (IsBack facts.backs r k) (sym z.2) q.1) z.3
             (subst (λ w. SameSet d (Plain t.other ∷ Exist r (key_with (negated w) k) ∷ rest (Exist r k) p)) (sym z.2) z.4),
         refl,
       )
-  from_exist r k h e (inr (inl q)) = (by_dead p r k h e q.0 q.1, refl)
-  from_exist r k h e (inr (inr q)) = (by_all q.0 p q.3.0 r k q.1 h e q.3.1 q.3.2 q.2 q.3.3, inl refl)
+  from_exist r k h e (inr (inl q)) =
+      let z = q.2 in
+      let t = z.0 in
+      (by_sure t p r k z.1 h e (subst (IsSure facts.sures r k) (sym z.2) q.1) z.3 z.4, refl)
+  from_exist r k h e (inr (inr (inl q))) = (by_dead p r k h e q.0 q.1, refl)
+  from_exist r k h e (inr (inr (inr q))) = (by_all q.0 p q.3.0 r k q.1 h e q.3.1 q.3.2 q.2 q.3.3, inl refl)
 
-  from_elem : (e : Elem) → Has p → Eligible n e p → IsOfElem n key Has backs deads e (rest e p) d → IsFrom
+  from_elem : (e : Elem) → Has p → Eligible n e p → IsOfElem n key Has facts e (rest e p) d → IsFrom
   from_elem (Plain a) h e q = from_atom a h e q
   from_elem (Exist r k) h e q = from_exist r k h e q
 
 -- what is concluded from a premise comes from one of its eligible elements
-pub from_clause_some : (n : Normal) (key : List ℕ) (clauses : List (List Elem)) (live : List ℕ) (premise : ℕ) (backs : List BackFact) (deads : List DeadFact) (d : List Elem)
-    → FromClause n key clauses live premise backs deads d → IsOfSome n key (IsPicked clauses (premise ∷ live)) backs deads (slice_index_or clauses premise []) d
-from_clause_some n key clauses live premise backs deads d f = of_some n key (IsPicked clauses (premise ∷ live)) backs deads (slice_index_or clauses premise []) d f.0 f.1
+pub from_clause_some : (n : Normal) (key : List ℕ) (clauses : List (List Elem)) (live : List ℕ) (premise : ℕ) (facts : ToldFacts) (d : List Elem)
+    → FromClause n key clauses live premise facts d → IsOfSome n key (IsPicked clauses (premise ∷ live)) facts (slice_index_or clauses premise []) d
+from_clause_some n key clauses live premise facts d f = of_some n key (IsPicked clauses (premise ∷ live)) facts (slice_index_or clauses premise []) d f.0 f.1
 
 -- what comes from an eligible element of a premise is concluded from it
-pub some_from_clause : (n : Normal) (key : List ℕ) (clauses : List (List Elem)) (live : List ℕ) (premise : ℕ) (backs : List BackFact) (deads : List DeadFact) (d : List Elem)
-    → IsOfSome n key (IsPicked clauses (premise ∷ live)) backs deads (slice_index_or clauses premise []) d → FromClause n key clauses live premise backs deads d
-some_from_clause n key clauses live premise backs deads d q =
-    let f = from_elem n key (IsPicked clauses (premise ∷ live)) backs deads (slice_index_or clauses premise []) d q.0 (inl refl) q.1 q.2 in
+pub some_from_clause : (n : Normal) (key : List ℕ) (clauses : List (List Elem)) (live : List ℕ) (premise : ℕ) (facts : ToldFacts) (d : List Elem)
+    → IsOfSome n key (IsPicked clauses (premise ∷ live)) facts (slice_index_or clauses premise []) d → FromClause n key clauses live premise facts d
+some_from_clause n key clauses live premise facts d q =
+    let f = from_elem n key (IsPicked clauses (premise ∷ live)) facts (slice_index_or clauses premise []) d q.0 (inl refl) q.1 q.2 in
     (f.0, f.1)

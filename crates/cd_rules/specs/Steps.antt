@@ -12,7 +12,8 @@ use Rattle.cd_clause.specs.Elements.{Eligible, rest}
 use Rattle.cd_clause.specs.Rules.{Rests}
 use Rattle.cd_rules.specs.declared.facts.BackFact.{BackFact}
 use Rattle.cd_rules.specs.declared.facts.DeadFact.{DeadFact}
-use Rattle.cd_rules.specs.Facts.{IsBack, IsDead}
+use Rattle.cd_rules.specs.declared.facts.SureFact.{SureFact}
+use Rattle.cd_rules.specs.Facts.{IsBack, IsSure, IsDead, ToldFacts}
 
 -- Init, for the atoms of a key
 abbrev pub IsInit : List ℕ → List Elem → Type 0
@@ -72,6 +73,16 @@ IsBackOf n r k a others d =
 abbrev pub IsBackFrom : Normal → List BackFact → ℕ → List ℕ → List Elem → List Elem → Type 0
 IsBackFrom n backs r k others d = (a : ℕ) × IsBack backs r k a × IsBackOf n r k a others d
 
+-- Sure, for an existential of this role and an atom of each that meets its key
+abbrev pub IsSureOf : Normal → ℕ → ℕ → List Elem → List Elem → Type 0
+IsSureOf n r a others d =
+    (t : Triple) × OneOf t n.n3 × (t.atom ≡ a) × Under n.n5 r t.role
+    × SameSet d (Plain t.other ∷ others)
+
+-- Sure, for an existential and these facts
+abbrev pub IsSureFrom : Normal → List SureFact → ℕ → List ℕ → List Elem → List Elem → Type 0
+IsSureFrom n sures r k others d = (a : ℕ) × IsSure sures r k a × IsSureOf n r a others d
+
 -- Dead, for an existential and these facts
 abbrev pub IsDeadFrom : List DeadFact → ℕ → List ℕ → List Elem → List Elem → Type 0
 IsDeadFrom deads r k others d = IsDead deads r k × SameSet d others
@@ -83,8 +94,9 @@ IsOfAtom n key Has a others d =
     ⊎ (IsCon n Has a others d ⊎ IsAllOfAtom n Has a others d))
 
 -- all rules for an existential
-abbrev pub IsOfExist : Normal → (List Elem → Type 0) → List BackFact → List DeadFact → ℕ → List ℕ
-    → List Elem → List Elem → Type 0
-IsOfExist n Has backs deads r k others d =
-    IsBackFrom n backs r k others d
-    ⊎ (IsDeadFrom deads r k others d ⊎ IsAllOfExist n Has r k others d)
+abbrev pub IsOfExist : Normal → (List Elem → Type 0) → ToldFacts → ℕ → List ℕ → List Elem
+    → List Elem → Type 0
+IsOfExist n Has facts r k others d =
+    IsBackFrom n facts.backs r k others d
+    ⊎ (IsSureFrom n facts.sures r k others d
+    ⊎ (IsDeadFrom facts.deads r k others d ⊎ IsAllOfExist n Has r k others d))

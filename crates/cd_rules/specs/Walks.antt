@@ -1,4 +1,4 @@
--- What the rules Back, Dead and All conclude by one axiom or fact, or with one element or clause: the steps of their walks.
+-- What the rules Back, Sure, Dead and All conclude by one axiom or fact, or with one element or clause: the steps of their walks.
 use Rattle.std.specs.Prelude.{◌≡◌, ℕ, ◌<◌, List, ◌∷◌, ◌++◌, length, remove, slice_index_or}
 use Rattle.cd_base.specs.Lists.{OneOf, SameSet}
 use Rattle.cd_base.specs.Keys.{plain, negated, key_with}
@@ -10,7 +10,8 @@ use Rattle.cd_clause.specs.declared.elem.Elem.TheVariants.{Plain, Exist}
 use Rattle.cd_clause.specs.Elements.{Eligible, rest}
 use Rattle.cd_rules.specs.declared.facts.BackFact.{BackFact}
 use Rattle.cd_rules.specs.declared.facts.DeadFact.{DeadFact}
-use Rattle.cd_rules.specs.Steps.{IsBackOf}
+use Rattle.cd_rules.specs.declared.facts.SureFact.{SureFact}
+use Rattle.cd_rules.specs.Steps.{IsBackOf, IsSureOf}
 
 -- d is a conclusion by one of these
 abbrev pub ByOne : {X : Type 0} → (X → List Elem → Type 0) → List X → List Elem → Type 0
@@ -35,6 +36,19 @@ IsBackByFact n r k others f d = (f.role ≡ r) × (f.key ≡ k) × IsBackOf n r 
 abbrev pub IsBackWith : Normal → BackFact → List Elem → List Elem → Type 0
 IsBackWith n f c d = Eligible n (Exist f.role f.key) c
     × IsBackOf n f.role f.key f.atom (rest (Exist f.role f.key) c) d
+
+-- Sure, by one axiom
+abbrev pub IsSureBy : Normal → ℕ → List Elem → Triple → List Elem → Type 0
+IsSureBy n r others t d = Under n.n5 r t.role × SameSet d (Plain t.other ∷ others)
+
+-- Sure, by one fact, if it is of this role and key
+abbrev pub IsSureByFact : Normal → ℕ → List ℕ → List Elem → SureFact → List Elem → Type 0
+IsSureByFact n r k others f d = (f.role ≡ r) × (f.key ≡ k) × IsSureOf n r f.atom others d
+
+-- Sure, for a fact with one clause
+abbrev pub IsSureWith : Normal → SureFact → List Elem → List Elem → Type 0
+IsSureWith n f c d = Eligible n (Exist f.role f.key) c
+    × IsSureOf n f.role f.atom (rest (Exist f.role f.key) c) d
 
 -- Dead, for a fact with one clause
 abbrev pub IsDeadWith : Normal → DeadFact → List Elem → List Elem → Type 0

@@ -49,11 +49,7 @@ pub(crate) fn rest_without_atom(
 /// Appends the atoms that are eligible in the clause.
 ///
 /// Compares each of its elements with the others. Constant time where the clause has an existential.
-pub(crate) fn push_eligible(
-    clause: &Clause,
-    normal: &Normal,
-    atoms: &mut Vec<u32>,
-) -> Result<(), Memory>
+pub fn push_eligible(clause: &Clause, normal: &Normal, atoms: &mut Vec<u32>) -> Result<(), Memory>
     ensures { OnOk result ((b : ℕ) → OneOf b atoms.new.items
         ↔ (OneOf b atoms.old.items ⊎ Eligible normal.now (Plain b) clause.now)) }
 {

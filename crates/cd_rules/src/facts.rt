@@ -9,6 +9,14 @@ pub struct BackFact {
     pub atom: Atom,
 }
 
+/// The context of `key`, to which this context has an existential of `role`, has the clause of `atom` alone.
+#[derive(Debug, Drop, PartialEq, Eq)]
+pub struct SureFact {
+    pub role: Role,
+    pub key: Key,
+    pub atom: Atom,
+}
+
 /// The context of `key`, to which this context has an existential of `role`, has the empty clause.
 #[derive(Debug, Drop, PartialEq, Eq)]
 pub struct DeadFact {

@@ -13,8 +13,9 @@ use crate::back::back_from;
 use crate::con::con;
 use crate::dead::dead_from;
 use crate::ex::ex;
-use crate::facts::{BackFact, DeadFact};
+use crate::facts::{BackFact, DeadFact, SureFact};
 use crate::neg::neg;
+use crate::sure::sure_from;
 use cd_base::{Atom, Key, Memory, Role};
 use cd_clause::{Clause, Elem, eligible};
 use cd_index::Index;
@@ -33,13 +34,15 @@ pub fn on_clause(
     live: &[usize],
     premise: usize,
     backs: &[BackFact],
+    sures: &[SureFact],
     deads: &[DeadFact],
     out: &mut Vec<Clause>,
 ) -> Result<(), Memory>
     requires live { (k : ℕ) → OneOf k live.now → k < length clauses.now }
     requires premise { premise < length clauses.now }
     ensures { Appends Among (FromClause index.now.normal key.now clauses.now live.now premise
-        backs.now deads.now) (IsOk result) out.old.items out.new.items }
+        (record { backs = backs.now; sures = sures.now; deads = deads.now }))
+        (IsOk result) out.old.items out.new.items }
 {
     let choices = choices_of(alloc, premise, live)?;
     let clause = &clauses[premise];
@@ -48,7 +51,7 @@ pub fn on_clause(
         if eligible(clause, i, index.normal()) {
             let others = clause.without(i)?;
             on_elem(
-                alloc, index, key, clauses, &choices, backs, deads, &elems[i], &others, out,
+                alloc, index, key, clauses, &choices, backs, sures, deads, &elems[i], &others, out,
             )?;
         }
     }
@@ -72,6 +75,7 @@ fn on_elem(
     clauses: &[Clause],
     choices: &[usize],
     backs: &[BackFact],
+    sures: &[SureFact],
     deads: &[DeadFact],
     elem: &Elem,
     others: &Clause,
@@ -79,13 +83,14 @@ fn on_elem(
 ) -> Result<(), Memory>
     requires choices { (k : ℕ) → OneOf k choices.now → k < length clauses.now }
     ensures { Appends Among (IsOfElem index.now.normal key.now
-        (IsPicked clauses.now choices.now) backs.now deads.now elem.now others.now)
+        (IsPicked clauses.now choices.now)
+        (record { backs = backs.now; sures = sures.now; deads = deads.now }) elem.now others.now)
         (IsOk result) out.old.items out.new.items }
 {
     match elem {
         Elem::Plain(atom) => on_atom(alloc, index, key, clauses, choices, *atom, others, out),
         Elem::Exist(role, exist) => on_exist(
-            index, clauses, choices, backs, deads, *role, exist, others, out,
+            index, clauses, choices, backs, sures, deads, *role, exist, others, out,
         ),
     }
 }
@@ -118,6 +123,7 @@ fn on_exist(
     clauses: &[Clause],
     choices: &[usize],
     backs: &[BackFact],
+    sures: &[SureFact],
     deads: &[DeadFact],
     role: Role,
     key: &Key,
@@ -126,10 +132,12 @@ fn on_exist(
 ) -> Result<(), Memory>
     requires choices { (k : ℕ) → OneOf k choices.now → k < length clauses.now }
     ensures { Appends Among (IsOfExist index.now.normal
-        (IsPicked clauses.now choices.now) backs.now deads.now role key.now others.now)
+        (IsPicked clauses.now choices.now)
+        (record { backs = backs.now; sures = sures.now; deads = deads.now }) role key.now others.now)
         (IsOk result) out.old.items out.new.items }
 {
     back_from(index, backs, role, key, others, out)?;
+    sure_from(index, sures, role, key, others, out)?;
     dead_from(deads, role, key, others, out)?;
     all_of_exist(index, clauses, choices, role, key, others, out)
 }

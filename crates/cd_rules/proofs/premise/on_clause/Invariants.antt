@@ -6,4 +6,4 @@ use Rattle.cd_rules.proofs.Places.{IsOfFirst}
 use Rattle.cd_rules.proofs.premise.on_clause.Given as goal
 
 abbrev pub invariant-places : goal.invariant-places
-invariant-places l = Appends Among (IsOfFirst l.index.normal l.key (IsPicked l.clauses (l.premise ∷ l.live)) l.backs l.deads l.clause l.i) (Unit {0}) l.fn.out.items l.out.items
+invariant-places l = Appends Among (IsOfFirst l.index.normal l.key (IsPicked l.clauses (l.premise ∷ l.live)) (record { backs = l.backs; sures = l.sures; deads = l.deads }) l.clause l.i) (Unit {0}) l.fn.out.items l.out.items
