@@ -1,6 +1,9 @@
 -- A context takes a fact.
 use Rattle.std.proofs.Common.{◌≡◌, ◌==◌, ◌&&◌, ◌∙◌, ◌⊎◌, Bool, true, false, ℕ, eqb-true, inl, inr, List, [], ◌∷◌, ◌++◌, length, filter, nat_lt, refl, sym, subst, arith}
 use Rattle.std.specs.List.{list_any}
+use Rattle.std.specs.Result.{OnOk}
+use Rattle.std.specs.declared.result.Result.{Result}
+use Rattle.std.specs.declared.result.Result.TheVariants.{Ok, Err}
 use Rattle.cd_base.specs.Lists.{OneOf, HasNoRepeats}
 use Rattle.cd_base.specs.declared.normal.Normal.{Normal}
 use Rattle.cd_base.proofs.Members.{member_left, member_cases, any_by_member, any_member}
@@ -10,9 +13,10 @@ use Rattle.cd_context.specs.Facts.{has_fact, same_key}
 use Rattle.cd_clause.specs.declared.elem.Elem.{Elem}
 use Rattle.cd_rules.specs.declared.facts.BackFact.{BackFact}
 use Rattle.cd_rules.specs.declared.facts.DeadFact.{DeadFact}
+use Rattle.cd_rules.specs.declared.facts.SureFact.{SureFact}
 use Rattle.cd_store.specs.Store.{IsStore}
 use Rattle.cd_context.specs.declared.facts.Fact.{Fact}
-use Rattle.cd_context.specs.declared.facts.Fact.TheVariants.{Start, Link, Back, Dead}
+use Rattle.cd_context.specs.declared.facts.Fact.TheVariants.{Start, Link, Back, Sure, Dead}
 use Rattle.cd_context.specs.declared.facts.LinkFact.{LinkFact}
 use Rattle.cd_context.specs.declared.facts.Note.{Note}
 use Rattle.cd_context.specs.Absorbing.{Keeps, Absorbs}
@@ -21,10 +25,15 @@ use Rattle.cd_context.specs.Justified.{Justified, IsContext, ClosedLocally, IsIn
 use Rattle.cd_context.specs.Owes.{Owes}
 use Rattle.cd_context.specs.State.{State}
 use Rattle.cd_context.specs.TakeUp.{ClosedUpTo, Continues}
-use Rattle.cd_context.proofs.Grown.{begins_same, Longer, grows, risen, length_one_more, had_link, had_back, had_dead}
+use Rattle.cd_context.proofs.Grown.{begins_same, Longer, grows, risen, length_one_more, had_link, had_back, had_sure, had_dead}
 use Rattle.cd_context.proofs.Once.{same_key-true}
 use Rattle.cd_context.proofs.Sent.{sends_less, owed_after}
 use Rattle.cd_context.proofs.TakeUps.{none_waits}
+
+-- what follows from two facts where a call went well
+pub on_ok_both : {T E P Q R : Type 0} (r : Result T E) → (P → Q → R) → OnOk r P → OnOk r Q → OnOk r R
+on_ok_both (Ok x) f p q = f p q
+on_ok_both (Err e) f p q = tt
 
 -- of facts that are justified, with one more that is
 each_with : {X : Type 0} (P : X → Type 0) (old new : List X) (f : X) → new ≡ old ++ f ∷ [] → ((x : X) → OneOf x old → P x) → P f → (x : X) → OneOf x new → P x
@@ -60,6 +69,11 @@ new_back s f h m = false≢true (sym h ∙ any_by_member (λ (g : BackFact). f.r
     (and_from (f.role == f.role) (same_key f.key f.key && f.atom == f.atom) (eq-eqb f.role f.role refl)
     (and_from (same_key f.key f.key) (f.atom == f.atom) (same_self f.key) (eq-eqb f.atom f.atom refl))))
 
+new_sure : (s : State) (f : SureFact) → has_fact s (Sure f.role f.key f.atom) ≡ false → OneOf f s.sures → ⊥
+new_sure s f h m = false≢true (sym h ∙ any_by_member (λ (g : SureFact). f.role == g.role && (same_key f.key g.key && f.atom == g.atom)) s.sures f m
+    (and_from (f.role == f.role) (same_key f.key f.key && f.atom == f.atom) (eq-eqb f.role f.role refl)
+    (and_from (same_key f.key f.key) (f.atom == f.atom) (same_self f.key) (eq-eqb f.atom f.atom refl))))
+
 new_dead : (s : State) (f : DeadFact) → has_fact s (Dead f.role f.key) ≡ false → OneOf f s.deads → ⊥
 new_dead s f h m = false≢true (sym h ∙ any_by_member (λ (g : DeadFact). f.role == g.role && same_key f.key g.key) s.deads f m
     (and_from (f.role == f.role) (same_key f.key f.key) (eq-eqb f.role f.role refl) (same_self f.key)))
@@ -83,10 +97,10 @@ absorbs_of n old old' fact new out new_out e k = subst (λ s. Absorbs n s fact n
 -- A link comes.
 module _ (n : Normal) (old : State) (f : LinkFact) (links : List LinkFact) (kept : IsContext n old) (closed : ClosedLocally n old) (just : Justified n old.key (Link f.key f.role)) (fresh : has_fact old (Link f.key f.role) ≡ false) (e : links ≡ old.links ++ f ∷ []) where
   abbrev with_link : State
-  with_link = record { key = old.key; clauses = old.clauses; live = old.live; links = links; backs = old.backs; deads = old.deads }
+  with_link = record { key = old.key; clauses = old.clauses; live = old.live; links = links; backs = old.backs; sures = old.sures; deads = old.deads }
 
   longer_link : Longer old with_link
-  longer_link = record { key = refl; clauses = begins_same old.clauses; links = (f ∷ [], e); backs = begins_same old.backs; deads = begins_same old.deads }
+  longer_link = record { key = refl; clauses = begins_same old.clauses; links = (f ∷ [], e); backs = begins_same old.backs; sures = begins_same old.sures; deads = begins_same old.deads }
 
   -- of the links, the old ones and this one are had
   gained_link : GainsOnly old (Link f.key f.role) with_link
@@ -96,6 +110,7 @@ module _ (n : Normal) (old : State) (f : LinkFact) (links : List LinkFact) (kept
     | inr p ↦ let q = and_parts (same_key k f.key) (r == f.role) p in let key : k ≡ f.key = same_key-true k f.key q.0 in let role : r ≡ f.role = eqb-true r f.role q.1 in inr cc
   ]
   gained_link (Back r k a) h = inl h
+  gained_link (Sure r k a) h = inl h
   gained_link (Dead r k) h = inl h
 
   pub keeps_link : Keeps n old (Link f.key f.role) with_link
@@ -104,9 +119,11 @@ module _ (n : Normal) (old : State) (f : LinkFact) (links : List LinkFact) (kept
       reachable = kept.reachable;
       links = λ h r m. each_with (λ x. Justified n old.key (Link x.key x.role)) old.links links f e (λ x i. kept.links x.key x.role i) just (record { key = h; role = r }) m;
       backs = kept.backs;
+      sures = kept.sures;
       deads = kept.deads;
       links_once = once_with old.links links f e kept.links_once (new_link old f fresh);
       backs_once = kept.backs_once;
+      sures_once = kept.sures_once;
       deads_once = kept.deads_once;
       in_turn = kept.in_turn;
       store = kept.store;
@@ -116,22 +133,22 @@ module _ (n : Normal) (old : State) (f : LinkFact) (links : List LinkFact) (kept
   }
 
   pub absorbs_link : (out new_out : List Note)
-      → Sends n (Unit {0}) (Owes n old) (record { key = old.key; clauses = old.clauses; live = old.live; links = old.links ++ f ∷ []; backs = old.backs; deads = old.deads }) out new_out → Absorbs n old (Link f.key f.role) with_link out new_out
+      → Sends n (Unit {0}) (Owes n old) (record { key = old.key; clauses = old.clauses; live = old.live; links = old.links ++ f ∷ []; backs = old.backs; sures = old.sures; deads = old.deads }) out new_out → Absorbs n old (Link f.key f.role) with_link out new_out
   absorbs_link out new_out s = record {
     closed = closed;
     had = had_link with_link old.links f e;
     risen = risen old with_link longer_link (let l = length_one_more old.links links f e in omega arith);
-    sends = subst (λ w. Sends n (Unit {0}) (Owes n old) (record { key = old.key; clauses = old.clauses; live = old.live; links = w; backs = old.backs; deads = old.deads }) out new_out) (sym e) s;
+    sends = subst (λ w. Sends n (Unit {0}) (Owes n old) (record { key = old.key; clauses = old.clauses; live = old.live; links = w; backs = old.backs; sures = old.sures; deads = old.deads }) out new_out) (sym e) s;
   }
 
 -- A back comes.
 module _ (n : Normal) (old : State) (f : BackFact) (backs : List BackFact) (clauses : List (List Elem)) (live : List ℕ) (kept : IsContext n old) (just : Justified n old.key (Back f.role f.key f.atom)) (fresh : has_fact old (Back f.role f.key f.atom) ≡ false) (e : backs ≡ old.backs ++ f ∷ [])
-    (in_turn : IsInTurn n old.key backs old.deads clauses) (store : IsStore clauses live) (continues : Continues (record { clauses = old.clauses; live = old.live }) (record { clauses = clauses; live = live })) where
+    (in_turn : IsInTurn n old.key (record { backs = backs; sures = old.sures; deads = old.deads }) clauses) (store : IsStore clauses live) (continues : Continues (record { clauses = old.clauses; live = old.live }) (record { clauses = clauses; live = live })) where
   abbrev with_back : State
-  with_back = record { key = old.key; clauses = clauses; live = live; links = old.links; backs = backs; deads = old.deads }
+  with_back = record { key = old.key; clauses = clauses; live = live; links = old.links; backs = backs; sures = old.sures; deads = old.deads }
 
   longer_back : Longer old with_back
-  longer_back = record { key = refl; clauses = continues.follows; links = begins_same old.links; backs = (f ∷ [], e); deads = begins_same old.deads }
+  longer_back = record { key = refl; clauses = continues.follows; links = begins_same old.links; backs = (f ∷ [], e); sures = begins_same old.sures; deads = begins_same old.deads }
 
   -- of the backs, the old ones and this one are had
   gained_back : GainsOnly old (Back f.role f.key f.atom) with_back
@@ -142,6 +159,7 @@ module _ (n : Normal) (old : State) (f : BackFact) (backs : List BackFact) (clau
     | inr p ↦ let q = and_parts (r == f.role) (same_key k f.key && a == f.atom) p in let w = and_parts (same_key k f.key) (a == f.atom) q.1 in
         let role : r ≡ f.role = eqb-true r f.role q.0 in let key : k ≡ f.key = same_key-true k f.key w.0 in let atom : a ≡ f.atom = eqb-true a f.atom w.1 in inr cc
   ]
+  gained_back (Sure r k a) h = inl h
   gained_back (Dead r k) h = inl h
 
   pub keeps_back : Keeps n old (Back f.role f.key f.atom) with_back
@@ -150,9 +168,11 @@ module _ (n : Normal) (old : State) (f : BackFact) (backs : List BackFact) (clau
       reachable = kept.reachable;
       links = kept.links;
       backs = λ r k a m. each_with (λ x. Justified n old.key (Back x.role x.key x.atom)) old.backs backs f e (λ x i. kept.backs x.role x.key x.atom i) just (record { role = r; key = k; atom = a }) m;
+      sures = kept.sures;
       deads = kept.deads;
       links_once = kept.links_once;
       backs_once = once_with old.backs backs f e kept.backs_once (new_back old f fresh);
+      sures_once = kept.sures_once;
       deads_once = kept.deads_once;
       in_turn = in_turn;
       store = store;
@@ -161,30 +181,81 @@ module _ (n : Normal) (old : State) (f : BackFact) (backs : List BackFact) (clau
     only = gained_back;
   }
 
-  pub absorbs_back : (out new_out : List Note) (stored : ℕ) → ClosedUpTo n old.key (record { backs = backs; deads = old.deads }) clauses live [] [] → stored ≡ length old.clauses
-      → Sends n (Unit {0}) (Owes n (record { key = old.key; clauses = clauses; live = filter (λ k. nat_lt k stored) live; links = old.links; backs = backs; deads = old.deads })) with_back out new_out
+  pub absorbs_back : (out new_out : List Note) → ClosedUpTo n old.key (record { backs = backs; sures = old.sures; deads = old.deads }) clauses live [] []
+      → Sends n (Unit {0}) (Owes n (record { key = old.key; clauses = clauses; live = filter (λ k. nat_lt k (length old.clauses)) live; links = old.links; backs = backs; sures = old.sures; deads = old.deads })) with_back out new_out
       → Absorbs n old (Back f.role f.key f.atom) with_back out new_out
-  absorbs_back out new_out stored closed q s = record {
-    closed = none_waits n old.key (record { backs = backs; deads = old.deads }) clauses live closed;
+  absorbs_back out new_out closed s = record {
+    closed = none_waits n old.key (record { backs = backs; sures = old.sures; deads = old.deads }) clauses live closed;
     had = had_back with_back old.backs f e;
     risen = risen old with_back longer_back (let l = length_one_more old.backs backs f e in omega arith);
-    sends = sends_less n _ (Owes n old) with_back out new_out (owed_after n old clauses live backs old.deads stored q continues) s;
+    sends = sends_less n _ (Owes n old) with_back out new_out (owed_after n old clauses live backs old.sures old.deads (length old.clauses) refl continues) s;
+  }
+
+-- A sure comes.
+module _ (n : Normal) (old : State) (f : SureFact) (sures : List SureFact) (clauses : List (List Elem)) (live : List ℕ) (kept : IsContext n old) (just : Justified n old.key (Sure f.role f.key f.atom)) (fresh : has_fact old (Sure f.role f.key f.atom) ≡ false) (e : sures ≡ old.sures ++ f ∷ [])
+    (in_turn : IsInTurn n old.key (record { backs = old.backs; sures = sures; deads = old.deads }) clauses) (store : IsStore clauses live) (continues : Continues (record { clauses = old.clauses; live = old.live }) (record { clauses = clauses; live = live })) where
+  abbrev with_sure : State
+  with_sure = record { key = old.key; clauses = clauses; live = live; links = old.links; backs = old.backs; sures = sures; deads = old.deads }
+
+  longer_sure : Longer old with_sure
+  longer_sure = record { key = refl; clauses = continues.follows; links = begins_same old.links; backs = begins_same old.backs; sures = (f ∷ [], e); deads = begins_same old.deads }
+
+  -- of the sures, the old ones and this one are had
+  gained_sure : GainsOnly old (Sure f.role f.key f.atom) with_sure
+  gained_sure Start h = inl refl
+  gained_sure (Link k r) h = inl h
+  gained_sure (Back r k a) h = inl h
+  gained_sure (Sure r k a) h = elim (any_with (λ (g : SureFact). r == g.role && (same_key k g.key && a == g.atom)) old.sures sures f e h) [
+    | inl m ↦ inl m
+    | inr p ↦ let q = and_parts (r == f.role) (same_key k f.key && a == f.atom) p in let w = and_parts (same_key k f.key) (a == f.atom) q.1 in
+        let role : r ≡ f.role = eqb-true r f.role q.0 in let key : k ≡ f.key = same_key-true k f.key w.0 in let atom : a ≡ f.atom = eqb-true a f.atom w.1 in inr cc
+  ]
+  gained_sure (Dead r k) h = inl h
+
+  pub keeps_sure : Keeps n old (Sure f.role f.key f.atom) with_sure
+  keeps_sure = record {
+    context = record {
+      reachable = kept.reachable;
+      links = kept.links;
+      backs = kept.backs;
+      sures = λ r k a m. each_with (λ x. Justified n old.key (Sure x.role x.key x.atom)) old.sures sures f e (λ x i. kept.sures x.role x.key x.atom i) just (record { role = r; key = k; atom = a }) m;
+      deads = kept.deads;
+      links_once = kept.links_once;
+      backs_once = kept.backs_once;
+      sures_once = once_with old.sures sures f e kept.sures_once (new_sure old f fresh);
+      deads_once = kept.deads_once;
+      in_turn = in_turn;
+      store = store;
+    };
+    grows = grows old with_sure longer_sure;
+    only = gained_sure;
+  }
+
+  pub absorbs_sure : (out new_out : List Note) → ClosedUpTo n old.key (record { backs = old.backs; sures = sures; deads = old.deads }) clauses live [] []
+      → Sends n (Unit {0}) (Owes n (record { key = old.key; clauses = clauses; live = filter (λ k. nat_lt k (length old.clauses)) live; links = old.links; backs = old.backs; sures = sures; deads = old.deads })) with_sure out new_out
+      → Absorbs n old (Sure f.role f.key f.atom) with_sure out new_out
+  absorbs_sure out new_out closed s = record {
+    closed = none_waits n old.key (record { backs = old.backs; sures = sures; deads = old.deads }) clauses live closed;
+    had = had_sure with_sure old.sures f e;
+    risen = risen old with_sure longer_sure (let l = length_one_more old.sures sures f e in omega arith);
+    sends = sends_less n _ (Owes n old) with_sure out new_out (owed_after n old clauses live old.backs sures old.deads (length old.clauses) refl continues) s;
   }
 
 -- A dead comes.
 module _ (n : Normal) (old : State) (f : DeadFact) (deads : List DeadFact) (clauses : List (List Elem)) (live : List ℕ) (kept : IsContext n old) (just : Justified n old.key (Dead f.role f.key)) (fresh : has_fact old (Dead f.role f.key) ≡ false) (e : deads ≡ old.deads ++ f ∷ [])
-    (in_turn : IsInTurn n old.key old.backs deads clauses) (store : IsStore clauses live) (continues : Continues (record { clauses = old.clauses; live = old.live }) (record { clauses = clauses; live = live })) where
+    (in_turn : IsInTurn n old.key (record { backs = old.backs; sures = old.sures; deads = deads }) clauses) (store : IsStore clauses live) (continues : Continues (record { clauses = old.clauses; live = old.live }) (record { clauses = clauses; live = live })) where
   abbrev with_dead : State
-  with_dead = record { key = old.key; clauses = clauses; live = live; links = old.links; backs = old.backs; deads = deads }
+  with_dead = record { key = old.key; clauses = clauses; live = live; links = old.links; backs = old.backs; sures = old.sures; deads = deads }
 
   longer_dead : Longer old with_dead
-  longer_dead = record { key = refl; clauses = continues.follows; links = begins_same old.links; backs = begins_same old.backs; deads = (f ∷ [], e) }
+  longer_dead = record { key = refl; clauses = continues.follows; links = begins_same old.links; backs = begins_same old.backs; sures = begins_same old.sures; deads = (f ∷ [], e) }
 
   -- of the deads, the old ones and this one are had
   gained_dead : GainsOnly old (Dead f.role f.key) with_dead
   gained_dead Start h = inl refl
   gained_dead (Link k r) h = inl h
   gained_dead (Back r k a) h = inl h
+  gained_dead (Sure r k a) h = inl h
   gained_dead (Dead r k) h = elim (any_with (λ (g : DeadFact). r == g.role && same_key k g.key) old.deads deads f e h) [
     | inl m ↦ inl m
     | inr p ↦ let q = and_parts (r == f.role) (same_key k f.key) p in let role : r ≡ f.role = eqb-true r f.role q.0 in let key : k ≡ f.key = same_key-true k f.key q.1 in inr cc
@@ -196,9 +267,11 @@ module _ (n : Normal) (old : State) (f : DeadFact) (deads : List DeadFact) (clau
       reachable = kept.reachable;
       links = kept.links;
       backs = kept.backs;
+      sures = kept.sures;
       deads = λ r k m. each_with (λ x. Justified n old.key (Dead x.role x.key)) old.deads deads f e (λ x i. kept.deads x.role x.key i) just (record { role = r; key = k }) m;
       links_once = kept.links_once;
       backs_once = kept.backs_once;
+      sures_once = kept.sures_once;
       deads_once = once_with old.deads deads f e kept.deads_once (new_dead old f fresh);
       in_turn = in_turn;
       store = store;
@@ -207,12 +280,12 @@ module _ (n : Normal) (old : State) (f : DeadFact) (deads : List DeadFact) (clau
     only = gained_dead;
   }
 
-  pub absorbs_dead : (out new_out : List Note) (stored : ℕ) → ClosedUpTo n old.key (record { backs = old.backs; deads = deads }) clauses live [] [] → stored ≡ length old.clauses
-      → Sends n (Unit {0}) (Owes n (record { key = old.key; clauses = clauses; live = filter (λ k. nat_lt k stored) live; links = old.links; backs = old.backs; deads = deads })) with_dead out new_out
+  pub absorbs_dead : (out new_out : List Note) → ClosedUpTo n old.key (record { backs = old.backs; sures = old.sures; deads = deads }) clauses live [] []
+      → Sends n (Unit {0}) (Owes n (record { key = old.key; clauses = clauses; live = filter (λ k. nat_lt k (length old.clauses)) live; links = old.links; backs = old.backs; sures = old.sures; deads = deads })) with_dead out new_out
       → Absorbs n old (Dead f.role f.key) with_dead out new_out
-  absorbs_dead out new_out stored closed q s = record {
-    closed = none_waits n old.key (record { backs = old.backs; deads = deads }) clauses live closed;
+  absorbs_dead out new_out closed s = record {
+    closed = none_waits n old.key (record { backs = old.backs; sures = old.sures; deads = deads }) clauses live closed;
     had = had_dead with_dead old.deads f e;
     risen = risen old with_dead longer_dead (let l = length_one_more old.deads deads f e in omega arith);
-    sends = sends_less n _ (Owes n old) with_dead out new_out (owed_after n old clauses live old.backs deads stored q continues) s;
+    sends = sends_less n _ (Owes n old) with_dead out new_out (owed_after n old clauses live old.backs old.sures deads (length old.clauses) refl continues) s;
   }

@@ -5,13 +5,13 @@ use Rattle.cd_base.specs.Lists.{OneOf}
 use Rattle.cd_base.specs.declared.normal.Normal.{Normal}
 use Rattle.cd_base.proofs.Members.{member_get}
 use Rattle.cd_clause.specs.declared.elem.Elem.{Elem}
-use Rattle.cd_rules.specs.Facts.{ConcludesFrom, IsPicked}
+use Rattle.cd_rules.specs.Facts.{ToldFacts, ConcludesFrom, IsPicked}
 use Rattle.cd_store.specs.Store.{StoreState, IsNew, IsOutcome, IsStore}
 use Rattle.cd_store.specs.declared.store.Added.{Added}
 use Rattle.cd_store.specs.declared.store.Added.TheVariants.{New, Held}
 use Rattle.cd_store.proofs.Picks.{picked_in, picked_from}
 use Rattle.cd_context.specs.Justified.{IsInTurn}
-use Rattle.cd_context.specs.TakeUp.{Told, ClosedUpTo, Continues, IsTakenFrom, IsPutInto, IsWorking, TakesUpMore, Stays, Follows}
+use Rattle.cd_context.specs.TakeUp.{ClosedUpTo, Continues, IsTakenFrom, IsPutInto, IsWorking, TakesUpMore, Stays, Follows}
 use Rattle.cd_context.proofs.TakeUps.{more_from, out_held, out_new}
 use Rattle.cd_context.proofs.Waits.{working_new, takes_up_new, concluded_more, in_turn_new}
 
@@ -36,15 +36,15 @@ continues_new old new o k s kept = record {
 }
 
 -- what the loop that adds conclusions keeps: those of `out` are left
-pub record IsAdding (n : Normal) (key : List ℕ) (told : Told) (first : StoreState) (first_waiting : List ℕ) (store : StoreState) (waiting : List ℕ) (out : List (List Elem)) : Type 0 where
+pub record IsAdding (n : Normal) (key : List ℕ) (told : ToldFacts) (first : StoreState) (first_waiting : List ℕ) (store : StoreState) (waiting : List ℕ) (out : List (List Elem)) : Type 0 where
   pub closed : ClosedUpTo n key told store.clauses store.live waiting out
   pub working : IsWorking n key told store.clauses waiting
-  pub concluded : (o : List Elem) → OneOf o out → ConcludesFrom n key (λ c. OneOf c store.clauses) told.backs told.deads o
+  pub concluded : (o : List Elem) → OneOf o out → ConcludesFrom n key (λ c. OneOf c store.clauses) told o
   pub takes_up : TakesUpMore first.clauses first_waiting store.clauses waiting
   pub stays : Stays first.live first_waiting store.live waiting
   pub continues : Continues first store
 
-module _ (n : Normal) (key : List ℕ) (told : Told) (first : StoreState) (fw : List ℕ) (old : StoreState) (waiting : List ℕ) (items : List (List Elem)) (o : List Elem) (out : List (List Elem))
+module _ (n : Normal) (key : List ℕ) (told : ToldFacts) (first : StoreState) (fw : List ℕ) (old : StoreState) (waiting : List ℕ) (items : List (List Elem)) (o : List Elem) (out : List (List Elem))
     (a : IsAdding n key told first fw old waiting items) (e : items ≡ o ∷ out) (new : StoreState) (added : Added) (t : IsOutcome old o new added) (kept : IsStore new.clauses new.live) where
   at : IsAdding n key told first fw old waiting (o ∷ out)
   at = subst (IsAdding n key told first fw old waiting) e a
@@ -53,7 +53,7 @@ module _ (n : Normal) (key : List ℕ) (told : Told) (first : StoreState) (fw : 
   add_held i q =
       let h : IsOutcome old o new (Held i) = subst (λ x. IsOutcome old o new x) q t in
       subst (λ x. IsAdding n key told first fw x waiting out) (sym h.1) record {
-        closed = out_held n key told old.clauses old.live waiting o out at.closed (_, picked_in old.clauses old.live i h.0.isin, h.0.within);
+        closed = out_held n key told old.clauses old.live waiting o out at.closed (_, picked_in old.clauses old.live i h.0.isin, h.0.covers);
         working = at.working;
         concluded = λ x m. at.concluded x (inr m);
         takes_up = at.takes_up;
@@ -64,7 +64,7 @@ module _ (n : Normal) (key : List ℕ) (told : Told) (first : StoreState) (fw : 
   pub add_new : (k : ℕ) → added ≡ New k → (after : List ℕ) → IsPutInto k waiting after → IsAdding n key told first fw new after out
   add_new k q after p =
       let h : IsNew old o new k = subst (λ x. IsOutcome old o new x) q t in
-      let c : ConcludesFrom n key (λ x. OneOf x old.clauses) told.backs told.deads o = at.concluded o (inl refl) in
+      let c : ConcludesFrom n key (λ x. OneOf x old.clauses) told o = at.concluded o (inl refl) in
       record {
         closed = out_new n key told old new waiting after o k out at.closed h p.isin;
         working = working_new n key told old new waiting after o k at.working c h p;
@@ -75,7 +75,7 @@ module _ (n : Normal) (key : List ℕ) (told : Told) (first : StoreState) (fw : 
       }
 
   -- what holds though the number of the new clause could not be put among those that wait
-  pub add_turn : (k : ℕ) → added ≡ New k → IsInTurn n key told.backs told.deads new.clauses
+  pub add_turn : (k : ℕ) → added ≡ New k → IsInTurn n key told new.clauses
   add_turn k q =
       let h : IsNew old o new k = subst (λ x. IsOutcome old o new x) q t in
       in_turn_new n key told old new o k at.working.in_turn (at.concluded o (inl refl)) h
@@ -86,11 +86,11 @@ module _ (n : Normal) (key : List ℕ) (told : Told) (first : StoreState) (fw : 
       continues_trans first old new at.continues (continues_new old new o k h kept)
 
 -- what waits loses a number
-pub working_taken : (n : Normal) (key : List ℕ) (told : Told) (clauses : List (List Elem)) (waiting after : List ℕ) (m : ℕ) → IsWorking n key told clauses waiting → IsTakenFrom m waiting after → IsWorking n key told clauses after
+pub working_taken : (n : Normal) (key : List ℕ) (told : ToldFacts) (clauses : List (List Elem)) (waiting after : List ℕ) (m : ℕ) → IsWorking n key told clauses waiting → IsTakenFrom m waiting after → IsWorking n key told clauses after
 working_taken n key told clauses waiting after m w t = record { in_turn = w.in_turn; in_range = λ i h. w.in_range i (t.after i h); fewer = let x = w.fewer in let y = t.count in omega arith }
 
 -- a conclusion from clauses of numbers in range is one from stored clauses
-pub concluded_of : (n : Normal) (key : List ℕ) (told : Told) (clauses : List (List Elem)) (numbers : List ℕ) (o : List Elem) → ((k : ℕ) → OneOf k numbers → k < length clauses)
-    → ConcludesFrom n key (IsPicked clauses numbers) told.backs told.deads o → ConcludesFrom n key (λ c. OneOf c clauses) told.backs told.deads o
+pub concluded_of : (n : Normal) (key : List ℕ) (told : ToldFacts) (clauses : List (List Elem)) (numbers : List ℕ) (o : List Elem) → ((k : ℕ) → OneOf k numbers → k < length clauses)
+    → ConcludesFrom n key (IsPicked clauses numbers) told o → ConcludesFrom n key (λ c. OneOf c clauses) told o
 concluded_of n key told clauses numbers o range q = more_from n key told (IsPicked clauses numbers) (λ c. OneOf c clauses) o
     (λ c h. let r = picked_from clauses numbers c h in subst (λ x. OneOf x clauses) (sym r.2) (member_get clauses r.0 [] (range r.0 r.1))) q

@@ -7,8 +7,9 @@ use Rattle.cd_base.specs.Lists.{OneOf}
 use Rattle.cd_base.proofs.Members.{member_left, member_right, any_member, any_by_member}
 use Rattle.cd_rules.specs.declared.facts.BackFact.{BackFact}
 use Rattle.cd_rules.specs.declared.facts.DeadFact.{DeadFact}
+use Rattle.cd_rules.specs.declared.facts.SureFact.{SureFact}
 use Rattle.cd_context.specs.declared.facts.Fact.{Fact}
-use Rattle.cd_context.specs.declared.facts.Fact.TheVariants.{Start, Link, Back, Dead}
+use Rattle.cd_context.specs.declared.facts.Fact.TheVariants.{Start, Link, Back, Sure, Dead}
 use Rattle.cd_context.specs.declared.facts.LinkFact.{LinkFact}
 use Rattle.cd_context.specs.Contract.{Grows}
 use Rattle.cd_base.specs.Counts.{last}
@@ -37,12 +38,14 @@ pub record Longer (old new : State) : Type 0 where
   pub clauses : Begins old.clauses new.clauses
   pub links : Begins old.links new.links
   pub backs : Begins old.backs new.backs
+  pub sures : Begins old.sures new.sures
   pub deads : Begins old.deads new.deads
 
 has_longer : (old new : State) → Longer old new → (f : Fact) → has_fact old f ≡ true → has_fact new f ≡ true
 has_longer old new l Start h = refl
 has_longer old new l (Link k r) h = any_begins _ old.links new.links l.links h
 has_longer old new l (Back r k a) h = any_begins _ old.backs new.backs l.backs h
+has_longer old new l (Sure r k a) h = any_begins _ old.sures new.sures l.sures h
 has_longer old new l (Dead r k) h = any_begins _ old.deads new.deads l.deads h
 
 pub grows : (old new : State) → Longer old new → Grows old new
@@ -50,6 +53,7 @@ grows old new l =
     let a : length old.clauses ≤ length new.clauses = begins_length old.clauses new.clauses l.clauses in
     let b : length old.links ≤ length new.links = begins_length old.links new.links l.links in
     let c : length old.backs ≤ length new.backs = begins_length old.backs new.backs l.backs in
+    let e : length old.sures ≤ length new.sures = begins_length old.sures new.sures l.sures in
     let d : length old.deads ≤ length new.deads = begins_length old.deads new.deads l.deads in
     record {
       key = l.key;
@@ -59,7 +63,7 @@ grows old new l =
     }
 
 -- of one fact more, the count rises where it isn't at its end
-pub risen : (old new : State) → Longer old new → length old.links + (length old.backs + length old.deads) < length new.links + (length new.backs + length new.deads)
+pub risen : (old new : State) → Longer old new → length old.links + (length old.backs + (length old.sures + length old.deads)) < length new.links + (length new.backs + (length new.sures + length new.deads))
     → (count old < count new) ⊎ (count new ≡ last)
 risen old new l h =
     let a : length old.clauses ≤ length new.clauses = begins_length old.clauses new.clauses l.clauses in
@@ -75,6 +79,10 @@ had_link s links f e = any_by_member _ s.links f (subst (λ w. OneOf f w) (sym e
 
 pub had_back : (s : State) (backs : List BackFact) (f : BackFact) → s.backs ≡ backs ++ f ∷ [] → has_fact s (Back f.role f.key f.atom) ≡ true
 had_back s backs f e = any_by_member _ s.backs f (subst (λ w. OneOf f w) (sym e) (member_right f backs (f ∷ []) (inl refl)))
+    (and_from _ _ (eq-eqb f.role f.role refl) (and_from _ _ (same_key_refl f.key) (eq-eqb f.atom f.atom refl)))
+
+pub had_sure : (s : State) (sures : List SureFact) (f : SureFact) → s.sures ≡ sures ++ f ∷ [] → has_fact s (Sure f.role f.key f.atom) ≡ true
+had_sure s sures f e = any_by_member _ s.sures f (subst (λ w. OneOf f w) (sym e) (member_right f sures (f ∷ []) (inl refl)))
     (and_from _ _ (eq-eqb f.role f.role refl) (and_from _ _ (same_key_refl f.key) (eq-eqb f.atom f.atom refl)))
 
 pub had_dead : (s : State) (deads : List DeadFact) (f : DeadFact) → s.deads ≡ deads ++ f ∷ [] → has_fact s (Dead f.role f.key) ≡ true

@@ -6,17 +6,16 @@ use Rattle.cd_base.specs.declared.normal.Normal.{Normal}
 use Rattle.cd_base.proofs.Members.{member_left, member_right, member_get}
 use Rattle.cd_clause.specs.declared.elem.Elem.{Elem}
 use Rattle.cd_clause.specs.declared.elem.Elem.TheVariants.{Plain}
-use Rattle.cd_clause.specs.Derivations.{Derived, HasDerived, Reachable, from_exist}
+use Rattle.cd_clause.specs.Rules.{told_by}
+use Rattle.cd_clause.specs.Derivations.{Derived, HasDerived, HasSure, Reachable, from_exist}
 use Rattle.cd_clause.proofs.Derive.{concludes_more, derived_closed}
 use Rattle.cd_store.proofs.Picks.{picked_from}
-use Rattle.cd_rules.specs.declared.facts.BackFact.{BackFact}
-use Rattle.cd_rules.specs.declared.facts.DeadFact.{DeadFact}
-use Rattle.cd_rules.specs.Facts.{IsBack, IsDead}
+use Rattle.cd_rules.specs.Facts.{ToldFacts, told_from, IsBack, IsSure, IsDead}
 use Rattle.cd_context.specs.declared.facts.Fact.TheVariants.{Link}
 use Rattle.cd_context.specs.declared.facts.Note.{Note}
 use Rattle.cd_context.specs.Justified.{IsContext, Justified, StoredDerived, OwedJustified, StoredInTurn}
-use Rattle.cd_context.specs.Owes.{owes_link, owes_back, owes_dead}
-use Rattle.cd_context.specs.State.{State, live_of}
+use Rattle.cd_context.specs.Owes.{owes_link, owes_back, owes_sure, owes_dead}
+use Rattle.cd_context.specs.State.{State, live_of, told_of}
 
 -- a list has no other members than its reverse
 pub member_reversed : {X : Type 0} (x : X) (xs : List X) → OneOf x xs → OneOf x (reverse xs)
@@ -26,20 +25,20 @@ member_reversed {X} x (y ∷ xs) m =
     (elim m [ inl e ↦ member_right x (reverse xs) (y ∷ []) (inl e) | inr k ↦ member_left x (reverse xs) (y ∷ []) (member_reversed x xs k) ])
 
 -- what is stored in turn, from facts that are true, is derived
-pub in_turn_derived : (n : Normal) (key : List ℕ) (backs : List BackFact) (deads : List DeadFact)
-    → ((r : ℕ) (k : List ℕ) (a : ℕ) → IsBack backs r k a → HasDerived n k (Plain a)) → ((r : ℕ) (k : List ℕ) → IsDead deads r k → Derived n k [])
-    → (cs : List (List Elem)) → StoredInTurn n key backs deads cs → (c : List Elem) → OneOf c cs → Derived n key c
-in_turn_derived n key backs deads f g [] s c m = absurd m
-in_turn_derived n key backs deads f g (x ∷ cs) s c (inr m) = in_turn_derived n key backs deads f g cs s.1 c m
-in_turn_derived n key backs deads f g (x ∷ cs) s c (inl q) =
-    let earlier : (c : List Elem) → OneOf c cs → Derived n key c = in_turn_derived n key backs deads f g cs s.1 in
+pub in_turn_derived : (n : Normal) (key : List ℕ) (told : ToldFacts)
+    → ((r : ℕ) (k : List ℕ) (a : ℕ) → IsBack told.backs r k a → HasDerived n k (Plain a)) → ((r : ℕ) (k : List ℕ) (a : ℕ) → IsSure told.sures r k a → HasSure n k a)
+    → ((r : ℕ) (k : List ℕ) → IsDead told.deads r k → Derived n k [])
+    → (cs : List (List Elem)) → StoredInTurn n key told cs → (c : List Elem) → OneOf c cs → Derived n key c
+in_turn_derived n key told f w g [] s c m = absurd m
+in_turn_derived n key told f w g (x ∷ cs) s c (inr m) = in_turn_derived n key told f w g cs s.1 c m
+in_turn_derived n key told f w g (x ∷ cs) s c (inl q) =
+    let earlier : (c : List Elem) → OneOf c cs → Derived n key c = in_turn_derived n key told f w g cs s.1 in
     subst (Derived n key) (sym q) (derived_closed n key x
-    (concludes_more n key (λ c. OneOf c cs) (Derived n key) (IsBack backs) (λ r k a. HasDerived n k (Plain a)) (IsDead deads) (λ r k. Derived n k []) x
-    earlier f g s.0))
+    (concludes_more n key (λ c. OneOf c cs) (Derived n key) (told_from told) (told_by n (Derived n)) x earlier f w g s.0))
 
 pub stored_derived : StoredDerived
 stored_derived n s j c m =
-    in_turn_derived n s.key s.backs s.deads (λ r k a b. (j.backs r k a b).2) (λ r k d. (j.deads r k d).2) (reverse s.clauses) j.in_turn c
+    in_turn_derived n s.key (told_of s) (λ r k a b. (j.backs r k a b).2) (λ r k a b. (j.sures r k a b).2) (λ r k d. (j.deads r k d).2) (reverse s.clauses) j.in_turn c
     (member_reversed c s.clauses m)
 
 -- a live clause is derived
@@ -53,7 +52,11 @@ owed_justified n s j note (owes_link r k c m e q) =
     let P : Note → Type 0 = λ w. Reachable n w.key × Justified n w.key w.fact in
     let d = live_derived n s j c m in
     subst P (sym q) (from_exist s.key c r j.reachable d e, (j.reachable, (c, d, e)))
-owed_justified n s j note (owes_back h r c t l m e tm u q) =
+owed_justified n s j note (owes_back h r c t l m e alone tm u q) =
+    let P : Note → Type 0 = λ w. Reachable n w.key × Justified n w.key w.fact in
+    let k : Justified n s.key (Link h r) = j.links h r l in
+    subst P (sym q) (k.0, (k.0, k.1, (c, live_derived n s j c m, e)))
+owed_justified n s j note (owes_sure h r c t l m e tm u q) =
     let P : Note → Type 0 = λ w. Reachable n w.key × Justified n w.key w.fact in
     let k : Justified n s.key (Link h r) = j.links h r l in
     subst P (sym q) (k.0, (k.0, k.1, (c, live_derived n s j c m, e)))

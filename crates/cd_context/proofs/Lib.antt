@@ -9,6 +9,7 @@ pub mod Least
 pub mod LiveClauses
 pub mod Narrowing
 pub mod Once
+pub mod OpenNames
 pub mod Owed
 pub mod Sent
 pub mod Singles

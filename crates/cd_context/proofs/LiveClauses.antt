@@ -4,6 +4,7 @@ use Rattle.std.proofs.lemmas.Bool.{cases_lt, false≢true}
 use Rattle.std.proofs.lemmas.List.{get_or-reverse, length-reverse}
 use Rattle.cd_base.specs.Ascending.{Ascending}
 use Rattle.cd_base.specs.Lists.{OneOf, SameSet, Within}
+use Rattle.cd_clause.specs.Covering.{Covers}
 use Rattle.cd_base.proofs.Members.{member_at, member_get}
 use Rattle.cd_clause.specs.Elements.{is_before}
 use Rattle.cd_clause.specs.Numbers.{picked}
@@ -12,7 +13,7 @@ use Rattle.cd_clause.specs.declared.elem.Elem.TheVariants.{Plain, Exist}
 use Rattle.cd_clause.proofs.Order.{elems_strict}
 use Rattle.cd_clause.specs.Derivations.{IsSingle}
 use Rattle.cd_context.specs.UnitClauses.{is_only}
-use Rattle.cd_store.specs.Store.{ContainsNoEarlier, IsAscending, IsStore}
+use Rattle.cd_store.specs.Store.{CoveredByNoEarlier, IsAscending, IsStore}
 use Rattle.cd_store.proofs.Helpers.{get_same}
 use Rattle.cd_store.proofs.Picks.{picked_from, picked_in}
 
@@ -24,15 +25,15 @@ ascends_at (n ∷ ns) zero (suc k) a l h = a.0 _ (member_get ns k 0 (omega arith
 ascends_at (n ∷ ns) (suc i) zero a l h = absurd (omega arith)
 ascends_at (n ∷ ns) (suc i) (suc k) a l h = ascends_at ns i k a.1 (omega arith) (omega arith)
 
-newer_at : (cs : List (List Elem)) (i k : ℕ) → ContainsNoEarlier cs → i < k → k < length cs → Within (get_or cs k []) (get_or cs i []) → ⊥
+newer_at : (cs : List (List Elem)) (i k : ℕ) → CoveredByNoEarlier cs → i < k → k < length cs → Covers (get_or cs k []) (get_or cs i []) → ⊥
 newer_at [] i k a l h w = absurd (omega arith)
 newer_at (c ∷ cs) zero zero a l h w = absurd (omega arith)
 newer_at (c ∷ cs) zero (suc k) a l h w = a.0 _ (member_get cs k [] (omega arith)) w
 newer_at (c ∷ cs) (suc i) zero a l h w = absurd (omega arith)
 newer_at (c ∷ cs) (suc i) (suc k) a l h w = newer_at cs i k a.1 (omega arith) (omega arith) w
 
--- no stored clause contains one of a lower number
-pub no_earlier : (cs : List (List Elem)) (n m : ℕ) → ContainsNoEarlier (reverse cs) → n < m → m < length cs → Within (get_or cs n []) (get_or cs m []) → ⊥
+-- no stored clause is covered by one of a lower number
+pub no_earlier : (cs : List (List Elem)) (n m : ℕ) → CoveredByNoEarlier (reverse cs) → n < m → m < length cs → Covers (get_or cs n []) (get_or cs m []) → ⊥
 no_earlier cs n m a l h w =
     let e : length (reverse cs) ≡ length cs = length-reverse cs in
     let p : length cs - 1 - (length cs - 1 - m) ≡ m = omega arith in
@@ -40,7 +41,7 @@ no_earlier cs n m a l h w =
     let pm : get_or (reverse cs) (length cs - 1 - m) [] ≡ get_or cs m [] = get_or-reverse cs (length cs - 1 - m) [] (omega arith) ∙ ap (λ k. get_or cs k []) p in
     let pn : get_or (reverse cs) (length cs - 1 - n) [] ≡ get_or cs n [] = get_or-reverse cs (length cs - 1 - n) [] (omega arith) ∙ ap (λ k. get_or cs k []) q in
     newer_at (reverse cs) (length cs - 1 - m) (length cs - 1 - n) a (omega arith) (omega arith)
-    (subst (λ c. Within c (get_or (reverse cs) (length cs - 1 - m) [])) (sym pn) (subst (λ c. Within (get_or cs n []) c) (sym pm) w))
+    (subst (λ c. Covers c (get_or (reverse cs) (length cs - 1 - m) [])) (sym pn) (subst (λ c. Covers (get_or cs n []) c) (sym pm) w))
 
 -- where the empty clause is live, it is the last one
 pub last_is_empty : (clauses : List (List Elem)) (live : List ℕ) → IsStore clauses live → OneOf [] (picked clauses live) → get_or clauses (get_or live (length live - 1) 0) [] ≡ []
@@ -51,7 +52,7 @@ last_is_empty clauses live s h =
       | inl b ↦ absurd (no_earlier clauses r.0 (get_or live (length live - 1) 0) s.apart
           (subst (λ z. z < get_or live (length live - 1) 0) (k.2 0) (ascends_at live k.0 (length live - 1) s.ascends b (omega arith)))
           (s.in_range _ (member_get live (length live - 1) 0 (omega arith)))
-          (subst (λ c. Within c (get_or clauses (get_or live (length live - 1) 0) [])) r.2 (λ x m. absurd m)))
+          (subst (λ c. Covers c (get_or clauses (get_or live (length live - 1) 0) [])) r.2 (λ x m. absurd m)))
       | inr b ↦ let e : length live - 1 ≡ k.0 = omega arith in ap (λ z. get_or clauses (get_or live z 0) []) e ∙ ap (λ z. get_or clauses z []) (k.2 0) ∙ sym r.2
     ]
 

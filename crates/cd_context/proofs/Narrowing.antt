@@ -7,10 +7,8 @@ use Rattle.cd_clause.specs.declared.elem.Elem.{Elem}
 use Rattle.cd_clause.specs.declared.elem.Elem.TheVariants.{Plain, Exist}
 use Rattle.cd_clause.specs.Elements.{Eligible, rest}
 use Rattle.cd_clause.specs.Rules.{Rests}
-use Rattle.cd_rules.specs.declared.facts.BackFact.{BackFact}
-use Rattle.cd_rules.specs.declared.facts.DeadFact.{DeadFact}
 use Rattle.cd_rules.specs.Elems.{IsOfElem}
-use Rattle.cd_rules.specs.Facts.{IsPicked}
+use Rattle.cd_rules.specs.Facts.{IsPicked, ToldFacts}
 use Rattle.cd_rules.proofs.Using.{from_clause_some, some_from_clause}
 use Rattle.cd_store.proofs.Picks.{picked_in, picked_from}
 use Rattle.cd_context.proofs.Besides.{left_read}
@@ -57,8 +55,8 @@ module _ (n : Normal) (clauses : List (List Elem)) (premise : ℕ) (live waiting
       record { tail = r.3.tail; rests = rests_narrow left r.3.tail (λ b i. h b (inr i)) r.3.rests; is = r.3.is },
     )
 
-    module _ (backs : List BackFact) (deads : List DeadFact) (key : List ℕ) (d : List Elem) where
-      narrow : (e : Elem) → Eligible n e (get_or clauses premise []) → (others : List Elem) → IsOfElem n key Wide backs deads e others d → IsOfElem n key Narrow backs deads e others d
+    module _ (told : ToldFacts) (key : List ℕ) (d : List Elem) where
+      narrow : (e : Elem) → Eligible n e (get_or clauses premise []) → (others : List Elem) → IsOfElem n key Wide told e others d → IsOfElem n key Narrow told e others d
       narrow (Plain a) el others (inl q) = inl q
       narrow (Plain a) el others (inr (inl q)) = inr (inl q)
       narrow (Plain a) el others (inr (inr (inl q))) =
@@ -93,17 +91,18 @@ module _ (n : Normal) (clauses : List (List Elem)) (premise : ℕ) (live waiting
           )))
       narrow (Exist r k) el others (inl q) = inl q
       narrow (Exist r k) el others (inr (inl q)) = inr (inl q)
-      narrow (Exist r k) el others (inr (inr q)) =
+      narrow (Exist r k) el others (inr (inr (inl q))) = inr (inr (inl q))
+      narrow (Exist r k) el others (inr (inr (inr q))) =
           let b = q.3.0 in
-          inr (inr (
+          inr (inr (inr (
             q.0,
             q.1,
             q.2,
             (b, pick b (Plain q.0.atom) q.3.1 q.3.2.isin (λ m u. gained m (Exist r k, el, (q.0, q.1, u))), q.3.2, q.3.3),
-          ))
+          )))
 
   pub enough : AreEnough n clauses live waiting premise numbers
-  enough taken up key backs deads d q =
-      let s = from_clause_some n key clauses taken premise backs deads d q in
-      some_from_clause n key clauses numbers premise backs deads d
-      (s.0, s.1, narrow taken up backs deads key d s.0 s.1 (rest s.0 (get_or clauses premise [])) s.2)
+  enough taken up key told d q =
+      let s = from_clause_some n key clauses taken premise told d q in
+      some_from_clause n key clauses numbers premise told d
+      (s.0, s.1, narrow taken up told key d s.0 s.1 (rest s.0 (get_or clauses premise [])) s.2)

@@ -13,7 +13,7 @@ use Rattle.cd_context.specs.contracts.facts.FactPartialEq.TheImpl as facts
 use Rattle.cd_context.specs.contracts.facts.NotePartialEq.TheImpl as notes
 use Rattle.cd_context.specs.contracts.facts.NoteEq.TheImpl.Laws.{laws-law}
 use Rattle.cd_context.specs.declared.facts.Fact.{Fact}
-use Rattle.cd_context.specs.declared.facts.Fact.TheVariants.{Start, Link, Back, Dead}
+use Rattle.cd_context.specs.declared.facts.Fact.TheVariants.{Start, Link, Back, Sure, Dead}
 use Rattle.cd_context.specs.declared.facts.Note.{Note}
 use Rattle.cd_base.specs.Appends.{AppendsOnce}
 use Rattle.cd_context.specs.EachOnce.{HasEachOnce}
@@ -27,6 +27,7 @@ same_fact-true : (f g : Fact) → (facts.ghosts).eq f g ≡ true → f ≡ g
 same_fact-true Start Start e = refl
 same_fact-true Start (Link l s) e = cc
 same_fact-true Start (Back s l b) e = cc
+same_fact-true Start (Sure s l b) e = cc
 same_fact-true Start (Dead s l) e = cc
 same_fact-true (Link k r) Start e = cc
 same_fact-true (Link k r) (Link l s) e =
@@ -35,6 +36,7 @@ same_fact-true (Link k r) (Link l s) e =
     let role : r ≡ s = eqb-true r s p.1 in
     cc
 same_fact-true (Link k r) (Back s l b) e = cc
+same_fact-true (Link k r) (Sure s l b) e = cc
 same_fact-true (Link k r) (Dead s l) e = cc
 same_fact-true (Back r k a) Start e = cc
 same_fact-true (Back r k a) (Link l s) e = cc
@@ -45,10 +47,23 @@ same_fact-true (Back r k a) (Back s l b) e =
     let key : k ≡ l = same_key-true k l q.0 in
     let atom : a ≡ b = eqb-true a b q.1 in
     cc
+same_fact-true (Back r k a) (Sure s l b) e = cc
 same_fact-true (Back r k a) (Dead s l) e = cc
+same_fact-true (Sure r k a) Start e = cc
+same_fact-true (Sure r k a) (Link l s) e = cc
+same_fact-true (Sure r k a) (Back s l b) e = cc
+same_fact-true (Sure r k a) (Sure s l b) e =
+    let p = and_parts (eqb r s) (pointwise nat_eq k l && eqb a b) e in
+    let q = and_parts (pointwise nat_eq k l) (eqb a b) p.1 in
+    let role : r ≡ s = eqb-true r s p.0 in
+    let key : k ≡ l = same_key-true k l q.0 in
+    let atom : a ≡ b = eqb-true a b q.1 in
+    cc
+same_fact-true (Sure r k a) (Dead s l) e = cc
 same_fact-true (Dead r k) Start e = cc
 same_fact-true (Dead r k) (Link l s) e = cc
 same_fact-true (Dead r k) (Back s l b) e = cc
+same_fact-true (Dead r k) (Sure s l b) e = cc
 same_fact-true (Dead r k) (Dead s l) e =
     let p = and_parts (eqb r s) (pointwise nat_eq k l) e in
     let role : r ≡ s = eqb-true r s p.0 in

@@ -1,9 +1,9 @@
 -- What a context owes, by its clauses, their elements and its links.
-use Rattle.std.proofs.Common.{◌≡◌, ◌⊎◌, ℕ, zero, suc, ◌<◌, ◌≤◌, true, false, List, [], ◌∷◌, ◌++◌, length, filter, get_or, drop, refl, sym, ◌∙◌, ap, subst, inl, inr, arith}
+use Rattle.std.proofs.Common.{◌≡◌, ◌⊎◌, ◌↔◌, Bool, ℕ, zero, suc, ◌<◌, ◌≤◌, true, false, List, [], ◌∷◌, ◌++◌, length, filter, get_or, drop, refl, sym, ◌∙◌, ap, subst, inl, inr, arith}
 use Rattle.std.specs.Prelude.{nat_lt}
 use Rattle.std.specs.List.Sorted.{IsNonDecreasingBy, IsPartitionPoint}
-use Rattle.std.proofs.lemmas.Bool.{cases_lt, lt-ltb, ltb-true, ltb-false}
-use Rattle.cd_base.specs.Lists.{OneOf}
+use Rattle.std.proofs.lemmas.Bool.{cases_lt, lt-ltb, ltb-true, ltb-false, false≢true}
+use Rattle.cd_base.specs.Lists.{OneOf, SameSet}
 use Rattle.cd_base.specs.declared.normal.Normal.{Normal}
 use Rattle.cd_base.specs.declared.normal.Triple.{Triple}
 use Rattle.cd_base.proofs.Members.{member_at, member_get, member_right, member_cases}
@@ -11,20 +11,22 @@ use Rattle.cd_clause.specs.declared.elem.Elem.{Elem}
 use Rattle.cd_clause.specs.declared.elem.Elem.TheVariants.{Plain, Exist}
 use Rattle.cd_clause.specs.Elements.{Eligible}
 use Rattle.cd_clause.specs.Numbers.{picked}
+use Rattle.cd_clause.proofs.Eligibles.{eligible_alone}
 use Rattle.cd_store.specs.Store.{IsAscending}
 use Rattle.cd_store.proofs.Picks.{picked_in, picked_from}
 use Rattle.cd_rules.specs.declared.facts.BackFact.{BackFact}
 use Rattle.cd_rules.specs.declared.facts.DeadFact.{DeadFact}
+use Rattle.cd_rules.specs.declared.facts.SureFact.{SureFact}
 use Rattle.cd_rules.specs.LookUps.{AreAtAtom}
-use Rattle.cd_context.specs.declared.facts.Fact.TheVariants.{Back}
+use Rattle.cd_context.specs.declared.facts.Fact.TheVariants.{Back, Sure}
 use Rattle.cd_context.specs.declared.facts.LinkFact.{LinkFact}
 use Rattle.cd_context.specs.declared.facts.Note.{Note}
 use Rattle.cd_context.specs.Contract.{Sends, ListsOwed}
 use Rattle.cd_base.specs.Appends.{Appends}
 use Rattle.cd_base.proofs.Appending.{OfBelow, OfOne, otherwise}
 use Rattle.cd_base.specs.Appends.{AppendsOnce}
-use Rattle.cd_context.specs.Owes.{Owes, owes_link, owes_back, owes_dead}
-use Rattle.cd_context.specs.OwedParts.{AreFrom, IsUnderOne, IsOfUse, IsLinkNote, IsDeadNote, IsUsefulBack, IsLinkAt, IsBackAt, IsLinkOf, IsToldTo, IsToldBy, IsOwedBy}
+use Rattle.cd_context.specs.Owes.{Owes, owes_link, owes_back, owes_sure, owes_dead}
+use Rattle.cd_context.specs.OwedParts.{AreFrom, IsUnderOne, IsOfUse, IsLinkNote, IsDeadNote, IsAlone, IsUsefulNote, IsLinkAt, IsToldAt, IsAtomTold, IsLinkOf, IsToldTo, IsToldBy, IsOwedBy}
 use Rattle.cd_context.specs.State.{State, live_of}
 use Rattle.cd_rules.proofs.Found.{filtered_member, member_filtered}
 
@@ -44,19 +46,27 @@ link_at n own c i r k Done old new e el a =
         let key : l ≡ k = cc in
         subst (λ (m : List ℕ). IsLinkNote own r m note) key (subst (λ (t : ℕ). IsLinkNote own t l note) role p)
 
--- the backs of an atom that is eligible
-pub backs_at : (n : Normal) (own : List ℕ) (links : List LinkFact) (c : List Elem) (i a : ℕ) (Done : Type 0) (old new : List Note)
-    → get_or c i (Plain 0) ≡ Plain a → Eligible n (get_or c i (Plain 0)) c → Appends OneOf (OfOne (IsUsefulBack n own a) links) Done old new
-    → Appends OneOf (IsBackAt n own links c i) Done old new
-backs_at n own links c i a Done old new e el w =
-    otherwise (OfOne (IsUsefulBack n own a) links) (IsBackAt n own links c i) Done Done old new
-    (λ note p. (a, e, subst (λ (x : Elem). Eligible n x c) e el, p))
-    (λ h note q. same_atom note q.0 (sym e ∙ q.1) q.3) (λ h. h) w
+-- two answers to one question
+same_answer : (P : Type 0) (b d : Bool) → (b ≡ true) ↔ P → (d ≡ true) ↔ P → b ≡ d
+same_answer P true true p q = refl
+same_answer P true false p q = absurd (false≢true (q.1 (p.0 refl)))
+same_answer P false true p q = absurd (false≢true (p.1 (q.0 refl)))
+same_answer P false false p q = refl
+
+-- the facts of an atom that is eligible
+pub told_at : (n : Normal) (own : List ℕ) (links : List LinkFact) (c : List Elem) (i a : ℕ) (alone : Bool) (Done : Type 0) (old new : List Note)
+    → get_or c i (Plain 0) ≡ Plain a → Eligible n (get_or c i (Plain 0)) c → IsAlone c a alone → Appends OneOf (OfOne (IsUsefulNote n own a alone) links) Done old new
+    → Appends OneOf (IsToldAt n own links c i) Done old new
+told_at n own links c i a alone Done old new e el is w =
+    otherwise (OfOne (IsUsefulNote n own a alone) links) (IsToldAt n own links c i) Done Done old new
+    (λ note p. (a, e, (p.0, p.1, (subst (λ (x : Elem). Eligible n x c) e el, (alone, is, p.2)))))
+    (λ h note q. same_atom note q.0 (sym e ∙ q.1) q.2) (λ h. h) w
   where
-    same_atom : (note : Note) (b : ℕ) → Plain a ≡ Plain b → OfOne (IsUsefulBack n own b) links note → OfOne (IsUsefulBack n own a) links note
+    same_atom : (note : Note) (b : ℕ) → Plain a ≡ Plain b → (f : LinkFact) × OneOf f links × IsAtomTold n own c b f note → OfOne (IsUsefulNote n own a alone) links note
     same_atom note b z p =
         let atom : b ≡ a = cc in
-        subst (λ (d : ℕ). OfOne (IsUsefulBack n own d) links note) atom p
+        let t : IsAtomTold n own c a p.0 note = subst (λ (d : ℕ). IsAtomTold n own c d p.0 note) atom p.2 in
+        (p.0, p.1, subst (λ (d : Bool). IsUsefulNote n own a d p.0 note) (same_answer (SameSet c (Plain a ∷ [])) t.1.0 alone t.1.1 is) t.1.2)
 
 -- ---- one link
 
@@ -78,15 +88,15 @@ links_end n own c count Done Done' old new e d a =
 
 -- what the places of a clause tell is what it tells, where it isn't empty
 pub told_end : (n : Normal) (own : List ℕ) (links : List LinkFact) (c : List Elem) (count : ℕ) (Done Done' : Type 0) (old new : List Note) → count ≡ length c → (count ≡ 0 → ⊥) → (Done' → Done)
-    → Appends OneOf (OfBelow (IsBackAt n own links c) count) Done old new → Appends OneOf (IsToldBy n own links c) Done' old new
+    → Appends OneOf (OfBelow (IsToldAt n own links c) count) Done old new → Appends OneOf (IsToldBy n own links c) Done' old new
 told_end n own links c count Done Done' old new e some d a =
-    otherwise (OfBelow (IsBackAt n own links c) count) (IsToldBy n own links c) Done Done' old new
-    (λ note q. (q.2.3.0, q.2.3.1, inr (q.2.0, q.2.2, q.2.3.2)))
+    otherwise (OfBelow (IsToldAt n own links c) count) (IsToldBy n own links c) Done Done' old new
+    (λ note q. (q.2.2.0, q.2.2.1, inr (q.2.0, q.2.2.2)))
     (λ h note q. told note q.0 q.1 q.2) d a
   where
-    told : (note : Note) (f : LinkFact) → OneOf f links → IsToldTo n own c f note → OfBelow (IsBackAt n own links c) count note
+    told : (note : Note) (f : LinkFact) → OneOf f links → IsToldTo n own c f note → OfBelow (IsToldAt n own links c) count note
     told note f m (inl w) = absurd (some (e ∙ ap (λ (l : List Elem). length l) w.0))
-    told note f m (inr w) = let at = member_at (Plain w.0) c w.1.isin in (at.0, omega (arith, at.1, e), (w.0, at.2 (Plain 0), w.1, (f, m, w.2)))
+    told note f m (inr w) = let at = member_at (Plain w.0) c w.1.0.isin in (at.0, omega (arith, at.1, e), (w.0, at.2 (Plain 0), (f, m, w.1)))
 
 -- an empty clause tells deads
 pub deads_end : (n : Normal) (own : List ℕ) (links : List LinkFact) (c : List Elem) (Done : Type 0) (old new : List Note) → c ≡ []
@@ -98,7 +108,7 @@ deads_end n own links c Done old new e a =
   where
     told : (note : Note) (f : LinkFact) → OneOf f links → IsToldTo n own c f note → OfOne (IsDeadNote own) links note
     told note f m (inl w) = (f, m, w.1)
-    told note f m (inr w) = absurd (subst (λ (l : List Elem). OneOf (Plain w.0) l) e w.1.isin)
+    told note f m (inr w) = absurd (subst (λ (l : List Elem). OneOf (Plain w.0) l) e w.1.0.isin)
 
 -- ---- numbers
 
@@ -154,15 +164,21 @@ owed_of_clause n s c m note (inr q) = told q.0 q.1 q.2
   where
     told : (f : LinkFact) → OneOf f s.links → IsToldTo n s.key c f note → Owes n s note
     told f l (inl w) = owes_dead f.key f.role l (subst (λ (d : List Elem). OneOf d (live_of s)) w.0 m) w.1
-    told f l (inr w) =
-        let u : IsOfUse n w.0 f.role = w.2.0 in
-        owes_back f.key f.role c u.0 l m (subst (λ (a : ℕ). Eligible n (Plain a) c) (sym u.2) w.1) u.1 u.3
-        (subst (λ (a : ℕ). note ≡ record { key = f.key; fact = Back f.role s.key a }) (sym u.2) w.2.1)
+    told f l (inr (a, (el, (true, is, (u, q))))) =
+        owes_sure f.key f.role c u.0 l m (subst (λ (b : ℕ). SameSet c (Plain b ∷ [])) (sym u.2) (is.0 refl)) u.1 u.3
+        (subst (λ (b : ℕ). note ≡ record { key = f.key; fact = Sure f.role s.key b }) (sym u.2) q)
+    told f l (inr (a, (el, (false, is, (u, q))))) =
+        owes_back f.key f.role c u.0 l m (subst (λ (b : ℕ). Eligible n (Plain b) c) (sym u.2) el)
+        (subst (λ (b : ℕ). SameSet c (Plain b ∷ []) → ⊥) (sym u.2) (λ t. false≢true (is.1 t))) u.1 u.3
+        (subst (λ (b : ℕ). note ≡ record { key = f.key; fact = Back f.role s.key b }) (sym u.2) q)
 
 -- what is owed is owed by a live clause
 pub clause_of_owed : (n : Normal) (s : State) (note : Note) → Owes n s note → (c : List Elem) × OneOf c (live_of s) × IsOwedBy n s.key s.links c note
 clause_of_owed n s note (owes_link r k c m e q) = (c, m, inl (r, k, e, q))
-clause_of_owed n s note (owes_back h r c t l m e tm u q) = (c, m, inr (record { key = h; role = r }, l, inr (t.atom, e, ((t, tm, refl, u), q))))
+clause_of_owed n s note (owes_back h r c t l m e o tm u q) =
+    (c, m, inr (record { key = h; role = r }, l, inr (t.atom, (e, (false, (λ f. absurd (false≢true f), λ a. absurd (o a)), ((t, tm, refl, u), q))))))
+clause_of_owed n s note (owes_sure h r c t l m e tm u q) =
+    (c, m, inr (record { key = h; role = r }, l, inr (t.atom, (eligible_alone n t.atom c e, (true, (λ f. e, λ a. refl), ((t, tm, refl, u), q))))))
 clause_of_owed n s note (owes_dead h r l m q) = ([], m, inr (record { key = h; role = r }, l, inl (refl, q)))
 
 -- what the clauses of these numbers owe
@@ -173,15 +189,15 @@ OwedByOne n own links clauses k note = IsOwedBy n own links (get_or clauses k []
 abbrev pub ToldByOne : Normal → List ℕ → List LinkFact → List (List Elem) → ℕ → Note → Type 0
 ToldByOne n own links clauses k note = IsToldBy n own links (get_or clauses k []) note
 
-module _ (n : Normal) (key : List ℕ) (clauses : List (List Elem)) (live : List ℕ) (backs : List BackFact) (deads : List DeadFact) where
+module _ (n : Normal) (key : List ℕ) (clauses : List (List Elem)) (live : List ℕ) (backs : List BackFact) (sures : List SureFact) (deads : List DeadFact) where
   -- what is owed from a number on is all that became owed since
   pub sends_since : (links : List LinkFact) (stored : ℕ) (found : List ℕ) (Done : Type 0) (old new : List Note)
       → AreFrom stored live found → Appends OneOf (OfOne (OwedByOne n key links clauses) found) Done old new
-      → Sends n Done (Owes n (record { key = key; clauses = clauses; live = filter (λ k. nat_lt k stored) live; links = links; backs = backs; deads = deads }))
-      (record { key = key; clauses = clauses; live = live; links = links; backs = backs; deads = deads }) old new
+      → Sends n Done (Owes n (record { key = key; clauses = clauses; live = filter (λ k. nat_lt k stored) live; links = links; backs = backs; sures = sures; deads = deads }))
+      (record { key = key; clauses = clauses; live = live; links = links; backs = backs; sures = sures; deads = deads }) old new
   sends_since links stored found Done old new from a =
-      let now : State = record { key = key; clauses = clauses; live = live; links = links; backs = backs; deads = deads } in
-      let before : State = record { key = key; clauses = clauses; live = filter (λ k. nat_lt k stored) live; links = links; backs = backs; deads = deads } in
+      let now : State = record { key = key; clauses = clauses; live = live; links = links; backs = backs; sures = sures; deads = deads } in
+      let before : State = record { key = key; clauses = clauses; live = filter (λ k. nat_lt k stored) live; links = links; backs = backs; sures = sures; deads = deads } in
       record {
         added = a.added;
         follows = a.follows;
@@ -200,10 +216,10 @@ module _ (n : Normal) (key : List ℕ) (clauses : List (List Elem)) (live : List
   -- what is told to a new link is all that became owed by it
   pub sends_link : (earlier : List LinkFact) (link : LinkFact) (Done : Type 0) (old new : List Note)
       → Appends OneOf (OfOne (ToldByOne n key (link ∷ []) clauses) live) Done old new
-      → Sends n Done (Owes n (record { key = key; clauses = clauses; live = live; links = earlier; backs = backs; deads = deads }))
-      (record { key = key; clauses = clauses; live = live; links = earlier ++ link ∷ []; backs = backs; deads = deads }) old new
+      → Sends n Done (Owes n (record { key = key; clauses = clauses; live = live; links = earlier; backs = backs; sures = sures; deads = deads }))
+      (record { key = key; clauses = clauses; live = live; links = earlier ++ link ∷ []; backs = backs; sures = sures; deads = deads }) old new
   sends_link earlier link Done old new a =
-      let now : State = record { key = key; clauses = clauses; live = live; links = earlier ++ link ∷ []; backs = backs; deads = deads } in
+      let now : State = record { key = key; clauses = clauses; live = live; links = earlier ++ link ∷ []; backs = backs; sures = sures; deads = deads } in
       record {
         added = a.added;
         follows = a.follows;
@@ -215,7 +231,7 @@ module _ (n : Normal) (key : List ℕ) (clauses : List (List Elem)) (live : List
       }
     where
       before : State
-      before = record { key = key; clauses = clauses; live = live; links = earlier; backs = backs; deads = deads }
+      before = record { key = key; clauses = clauses; live = live; links = earlier; backs = backs; sures = sures; deads = deads }
 
       came : Done → (note : Note) (c : List Elem) → OneOf c (picked clauses live) → IsOwedBy n key (earlier ++ link ∷ []) c note → Owes n before note ⊎ OneOf note a.added
       came h note c m (inl q) = inl (owed_of_clause n before c m note (inl q))
@@ -227,29 +243,29 @@ module _ (n : Normal) (key : List ℕ) (clauses : List (List Elem)) (live : List
       ]
 
 -- nothing is owed by clauses with numbers below 0
-pub none_before : (n : Normal) (key : List ℕ) (clauses : List (List Elem)) (live : List ℕ) (links : List LinkFact) (backs : List BackFact) (deads : List DeadFact) (note : Note)
-    → Owes n (record { key = key; clauses = clauses; live = filter (λ k. nat_lt k 0) live; links = links; backs = backs; deads = deads }) note → ⊥
-none_before n key clauses live links backs deads note o =
-    let before : State = record { key = key; clauses = clauses; live = filter (λ k. nat_lt k 0) live; links = links; backs = backs; deads = deads } in
+pub none_before : (n : Normal) (key : List ℕ) (clauses : List (List Elem)) (live : List ℕ) (links : List LinkFact) (backs : List BackFact) (sures : List SureFact) (deads : List DeadFact) (note : Note)
+    → Owes n (record { key = key; clauses = clauses; live = filter (λ k. nat_lt k 0) live; links = links; backs = backs; sures = sures; deads = deads }) note → ⊥
+none_before n key clauses live links backs sures deads note o =
+    let before : State = record { key = key; clauses = clauses; live = filter (λ k. nat_lt k 0) live; links = links; backs = backs; sures = sures; deads = deads } in
     let w = clause_of_owed n before note o in
     let r = picked_from clauses (filter (λ k. nat_lt k 0) live) w.0 w.1 in
     let low : r.0 < 0 = ltb-true r.0 0 (filtered_member (λ k. nat_lt k 0) r.0 live r.1).1 in
     omega (arith, low)
 
 -- all that is owed, each once
-pub lists_owed : (n : Normal) (key : List ℕ) (clauses : List (List Elem)) (live : List ℕ) (links : List LinkFact) (backs : List BackFact) (deads : List DeadFact)
+pub lists_owed : (n : Normal) (key : List ℕ) (clauses : List (List Elem)) (live : List ℕ) (links : List LinkFact) (backs : List BackFact) (sures : List SureFact) (deads : List DeadFact)
     (owed old new : List Note) (Done : Type 0)
-    → Sends n (true ≡ true) (Owes n (record { key = key; clauses = clauses; live = filter (λ k. nat_lt k 0) live; links = links; backs = backs; deads = deads }))
-    (record { key = key; clauses = clauses; live = live; links = links; backs = backs; deads = deads }) [] owed
+    → Sends n (true ≡ true) (Owes n (record { key = key; clauses = clauses; live = filter (λ k. nat_lt k 0) live; links = links; backs = backs; sures = sures; deads = deads }))
+    (record { key = key; clauses = clauses; live = live; links = links; backs = backs; sures = sures; deads = deads }) [] owed
     → AppendsOnce (λ note. OneOf note owed) Done old new
-    → ListsOwed n Done (record { key = key; clauses = clauses; live = live; links = links; backs = backs; deads = deads }) old new
-lists_owed n key clauses live links backs deads owed old new Done s a = record {
+    → ListsOwed n Done (record { key = key; clauses = clauses; live = live; links = links; backs = backs; sures = sures; deads = deads }) old new
+lists_owed n key clauses live links backs sures deads owed old new Done s a = record {
   added = a.added;
   follows = a.follows;
   only = λ note m. s.only note (subst (λ (l : List Note). OneOf note l) s.follows (a.only note m));
   once = a.once;
   every = λ h note o. elim (s.every refl note o) [
-    | inl w ↦ absurd (none_before n key clauses live links backs deads note w)
+    | inl w ↦ absurd (none_before n key clauses live links backs sures deads note w)
     | inr m ↦ a.every h note (subst (λ (l : List Note). OneOf note l) (sym s.follows) m)
   ];
 }

@@ -8,13 +8,13 @@ use Rattle.cd_clause.specs.Numbers.{picked}
 use Rattle.cd_clause.specs.declared.elem.Elem.{Elem}
 use Rattle.cd_rules.specs.declared.facts.BackFact.{BackFact}
 use Rattle.cd_rules.specs.declared.facts.DeadFact.{DeadFact}
+use Rattle.cd_rules.specs.declared.facts.SureFact.{SureFact}
 use Rattle.cd_store.proofs.Picks.{picked_in, picked_from}
 use Rattle.cd_store.specs.Store.{StoreState}
-use Rattle.cd_context.specs.declared.facts.Fact.TheVariants.{Link, Back, Dead}
-use Rattle.cd_context.specs.declared.facts.LinkFact.{LinkFact}
+use Rattle.cd_context.specs.declared.facts.Fact.TheVariants.{Link, Back, Sure, Dead}
 use Rattle.cd_context.specs.declared.facts.Note.{Note}
 use Rattle.cd_context.specs.Contract.{Sends}
-use Rattle.cd_context.specs.Owes.{Owes, owes_link, owes_back, owes_dead}
+use Rattle.cd_context.specs.Owes.{Owes, owes_link, owes_back, owes_sure, owes_dead}
 use Rattle.cd_context.specs.State.{State, live_of}
 use Rattle.cd_context.specs.TakeUp.{Continues}
 
@@ -54,20 +54,22 @@ live_before old new stored e t c m =
 -- what is owed for live clauses that are live in the other state too, towards the same links
 owed_for : (n : Normal) (s t : State) → s.key ≡ t.key → s.links ≡ t.links → ((c : List Elem) → OneOf c (live_of s) → OneOf c (live_of t)) → (note : Note) → Owes n s note → Owes n t note
 owed_for n s t k l f note (owes_link r key c m e q) = owes_link r key c (f c m) e (subst (λ w. note ≡ record { key = key; fact = Link w r }) k q)
-owed_for n s t k l f note (owes_back h r c x i m e a u q) = owes_back h r c x (subst (λ w. OneOf (record { key = h; role = r }) w) l i) (f c m) e a u (subst (λ w. note ≡ record { key = h; fact = Back r w x.atom }) k q)
+owed_for n s t k l f note (owes_back h r c x i m e o a u q) = owes_back h r c x (subst (λ w. OneOf (record { key = h; role = r }) w) l i) (f c m) e o a u (subst (λ w. note ≡ record { key = h; fact = Back r w x.atom }) k q)
+owed_for n s t k l f note (owes_sure h r c x i m e a u q) = owes_sure h r c x (subst (λ w. OneOf (record { key = h; role = r }) w) l i) (f c m) e a u (subst (λ w. note ≡ record { key = h; fact = Sure r w x.atom }) k q)
 owed_for n s t k l f note (owes_dead h r i m q) = owes_dead h r (subst (λ w. OneOf (record { key = h; role = r }) w) l i) (f [] m) (subst (λ w. note ≡ record { key = h; fact = Dead r w }) k q)
 
 -- what the live clauses of before owe was owed before
-pub owed_after : (n : Normal) (old : State) (clauses : List (List Elem)) (live : List ℕ) (backs : List BackFact) (deads : List DeadFact) (stored : ℕ) → stored ≡ length old.clauses → Continues (record { clauses = old.clauses; live = old.live }) (record { clauses = clauses; live = live })
-    → (note : Note) → Owes n (record { key = old.key; clauses = clauses; live = filter (λ k. nat_lt k stored) live; links = old.links; backs = backs; deads = deads }) note → Owes n old note
-owed_after n old clauses live backs deads stored e t note o =
-    owed_for n (record { key = old.key; clauses = clauses; live = filter (λ k. nat_lt k stored) live; links = old.links; backs = backs; deads = deads }) old refl refl
+pub owed_after : (n : Normal) (old : State) (clauses : List (List Elem)) (live : List ℕ) (backs : List BackFact) (sures : List SureFact) (deads : List DeadFact) (stored : ℕ) → stored ≡ length old.clauses → Continues (record { clauses = old.clauses; live = old.live }) (record { clauses = clauses; live = live })
+    → (note : Note) → Owes n (record { key = old.key; clauses = clauses; live = filter (λ k. nat_lt k stored) live; links = old.links; backs = backs; sures = sures; deads = deads }) note → Owes n old note
+owed_after n old clauses live backs sures deads stored e t note o =
+    owed_for n (record { key = old.key; clauses = clauses; live = filter (λ k. nat_lt k stored) live; links = old.links; backs = backs; sures = sures; deads = deads }) old refl refl
     (live_before (record { clauses = old.clauses; live = old.live }) (record { clauses = clauses; live = live }) stored e t) note o
 
 -- what no clause owes
 pub owed_by_none : (n : Normal) (s : State) → ((c : List Elem) → OneOf c (live_of s) → ⊥) → (note : Note) → Owes n s note → ⊥
 owed_by_none n s none note (owes_link r key c m e q) = none c m
-owed_by_none n s none note (owes_back h r c x i m e a u q) = none c m
+owed_by_none n s none note (owes_back h r c x i m e o a u q) = none c m
+owed_by_none n s none note (owes_sure h r c x i m e a u q) = none c m
 owed_by_none n s none note (owes_dead h r i m q) = none [] m
 
 pub none_below_zero : (clauses : List (List Elem)) (live : List ℕ) (c : List Elem) → OneOf c (picked clauses (filter (λ k. nat_lt k 0) live)) → ⊥
@@ -77,21 +79,6 @@ none_below_zero clauses live c m =
     let a : r.0 < 0 = ltb-true r.0 0 f.1 in
     absurd (omega arith)
 
--- the same links under another name
-pub sends_at : (n : Normal) (key : List ℕ) (clauses : List (List Elem)) (earlier live : List ℕ) (links links' : List LinkFact) (backs : List BackFact) (deads : List DeadFact) (out new_out : List Note) → links ≡ links'
-    → Sends n (Unit {0}) (Owes n (record { key = key; clauses = clauses; live = earlier; links = links; backs = backs; deads = deads })) (record { key = key; clauses = clauses; live = live; links = links; backs = backs; deads = deads }) out new_out
-    → Sends n (Unit {0}) (Owes n (record { key = key; clauses = clauses; live = earlier; links = links'; backs = backs; deads = deads })) (record { key = key; clauses = clauses; live = live; links = links'; backs = backs; deads = deads }) out new_out
-sends_at n key clauses earlier live links links' backs deads out new_out e s = subst (λ w. Sends n (Unit {0}) (Owes n (record { key = key; clauses = clauses; live = earlier; links = w; backs = backs; deads = deads }))
-    (record { key = key; clauses = clauses; live = live; links = w; backs = backs; deads = deads }) out new_out) e s
-
 -- nothing is sent where nothing came to be owed
 pub sends_none : (n : Normal) (s : State) (out : List Note) → Sends n (Unit {0}) (Owes n s) s out out
 sends_none n s out = record { added = []; follows = sym (append-nil out); only = λ note m. absurd m; every = λ u note o. inl o }
-
--- what a context of no earlier clause sends
-pub sends_first : (n : Normal) (key : List ℕ) (clauses : List (List Elem)) (live : List ℕ) (links links' : List LinkFact) (backs : List BackFact) (deads : List DeadFact) (out new_out : List Note) → links ≡ links'
-    → Sends n (Unit {0}) (Owes n (record { key = key; clauses = clauses; live = filter (λ k. nat_lt k 0) live; links = links; backs = backs; deads = deads })) (record { key = key; clauses = clauses; live = live; links = links; backs = backs; deads = deads }) out new_out
-    → Sends n (Unit {0}) (λ note. ⊥) (record { key = key; clauses = clauses; live = live; links = links'; backs = backs; deads = deads }) out new_out
-sends_first n key clauses live links links' backs deads out new_out e s =
-    let before : State = record { key = key; clauses = clauses; live = filter (λ k. nat_lt k 0) live; links = links'; backs = backs; deads = deads } in
-    sends_less n (Owes n before) (λ note. ⊥) _ out new_out (owed_by_none n before (none_below_zero clauses live)) (sends_at n key clauses (filter (λ k. nat_lt k 0) live) live links links' backs deads out new_out e s)

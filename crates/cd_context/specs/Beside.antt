@@ -8,13 +8,11 @@ use Rattle.cd_clause.specs.Elements.{Eligible}
 use Rattle.cd_clause.specs.declared.elem.Elem.{Elem}
 use Rattle.cd_clause.specs.declared.elem.Elem.TheVariants.{Plain, Exist}
 use Rattle.cd_index.specs.Index.{left_of}
+use Rattle.cd_rules.specs.Facts.{ToldFacts}
 use Rattle.cd_rules.specs.LookUps.{filed_at}
-use Rattle.cd_rules.specs.declared.facts.BackFact.{BackFact}
-use Rattle.cd_rules.specs.declared.facts.DeadFact.{DeadFact}
 use Rattle.cd_rules.specs.Steps.{IsWithoutOne}
 use Rattle.cd_rules.specs.Uses.{FromClause}
 use Rattle.cd_store.specs.LookUps.{HasElem, HasExistential}
-use Rattle.cd_context.specs.TakeUp.{Told}
 
 -- some stored clause has the element
 abbrev pub IsHad : List (List Elem) → Elem → Type 0
@@ -75,16 +73,16 @@ abbrev pub AreTakenUp : List ℕ → List ℕ → List ℕ → Type 0
 AreTakenUp live waiting taken = Within taken live × ((k : ℕ) → OneOf k taken → OneOf k waiting → ⊥)
 
 -- each conclusion from the premise and clauses that were taken up is redundant among these
-abbrev pub HasConcluded : Normal → List ℕ → Told → List (List Elem) → List ℕ → List ℕ → ℕ
+abbrev pub HasConcluded : Normal → List ℕ → ToldFacts → List (List Elem) → List ℕ → List ℕ → ℕ
     → List (List Elem) → Type 0
 HasConcluded n key told clauses live waiting premise out =
     (taken : List ℕ) → AreTakenUp live waiting taken → (d : List Elem)
-    → FromClause n key clauses taken premise told.backs told.deads d → Redundant out d
+    → FromClause n key clauses taken premise told d → Redundant out d
 
 -- what can be concluded with the premise and clauses that were taken up can be concluded with it and these clauses
 abbrev pub AreEnough : Normal → List (List Elem) → List ℕ → List ℕ → ℕ → List ℕ → Type 0
 AreEnough n clauses live waiting premise numbers =
     (taken : List ℕ) → AreTakenUp live waiting taken
-    → (key : List ℕ) (backs : List BackFact) (deads : List DeadFact) (d : List Elem)
-    → FromClause n key clauses taken premise backs deads d
-    → FromClause n key clauses numbers premise backs deads d
+    → (key : List ℕ) (told : ToldFacts) (d : List Elem)
+    → FromClause n key clauses taken premise told d
+    → FromClause n key clauses numbers premise told d

@@ -8,6 +8,7 @@ pub mod Justified
 pub mod EachOnce
 pub mod UnitClauses
 pub mod Owes
+pub mod OpenNames
 pub mod OwedParts
 pub mod State
 pub mod TakeUp

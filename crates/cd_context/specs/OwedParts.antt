@@ -1,13 +1,14 @@
 -- What one clause, one of its elements or one link adds to what a context owes. `own` is the key of the context.
-use Rattle.std.specs.Prelude.{◌≡◌, ℕ, ◌≤◌, ◌⊎◌, ◌↔◌, List, [], slice_index_or}
-use Rattle.cd_base.specs.Lists.{OneOf}
+use Rattle.std.specs.Prelude.{◌≡◌, ℕ, ◌≤◌, ◌⊎◌, ◌↔◌, Bool, true, false, List, [], ◌∷◌, slice_index_or}
+use Rattle.cd_base.specs.Lists.{OneOf, SameSet}
 use Rattle.cd_base.specs.Normal.{Under}
 use Rattle.cd_base.specs.declared.normal.Normal.{Normal}
 use Rattle.cd_base.specs.declared.normal.Triple.{Triple}
 use Rattle.cd_clause.specs.declared.elem.Elem.{Elem}
 use Rattle.cd_clause.specs.declared.elem.Elem.TheVariants.{Plain, Exist}
 use Rattle.cd_clause.specs.Elements.{Eligible}
-use Rattle.cd_context.specs.declared.facts.Fact.TheVariants.{Link, Back, Dead}
+use Rattle.cd_context.specs.declared.facts.Fact.{Fact}
+use Rattle.cd_context.specs.declared.facts.Fact.TheVariants.{Link, Back, Sure, Dead}
 use Rattle.cd_context.specs.declared.facts.LinkFact.{LinkFact}
 use Rattle.cd_context.specs.declared.facts.Note.{Note}
 
@@ -27,37 +28,50 @@ IsOfUse n a r = (t : Triple) × OneOf t n.n3 × (t.atom ≡ a) × Under n.n5 r t
 abbrev pub IsLinkNote : List ℕ → ℕ → List ℕ → Note → Type 0
 IsLinkNote own r k note = note ≡ record { key = k; fact = Link own r }
 
--- a back of the atom to the context that has an existential to this one
-abbrev pub IsBackNote : List ℕ → ℕ → LinkFact → Note → Type 0
-IsBackNote own a f note = note ≡ record { key = f.key; fact = Back f.role own a }
+-- whether the clause is that of the atom alone
+abbrev pub IsAlone : List Elem → ℕ → Bool → Type 0
+IsAlone c a alone = (alone ≡ true) ↔ SameSet c (Plain a ∷ [])
+
+-- what is told of an atom that is eligible in a clause: a sure where it is alone there, and else a back
+abbrev pub atom_fact : Bool → ℕ → List ℕ → ℕ → Fact
+atom_fact true r own a = Sure r own a
+atom_fact false r own a = Back r own a
+
+-- this fact to the context that has an existential to this one
+abbrev pub IsAtomNote : List ℕ → ℕ → Bool → LinkFact → Note → Type 0
+IsAtomNote own a alone f note = note ≡ record { key = f.key; fact = atom_fact alone f.role own a }
 
 -- a dead to the context that has an existential to this one
 abbrev pub IsDeadNote : List ℕ → LinkFact → Note → Type 0
 IsDeadNote own f note = note ≡ record { key = f.key; fact = Dead f.role own }
 
--- the back of an atom, where it is of use there
-abbrev pub IsUsefulBack : Normal → List ℕ → ℕ → LinkFact → Note → Type 0
-IsUsefulBack n own a f note = IsOfUse n a f.role × IsBackNote own a f note
+-- the fact of an atom, where it is of use there
+abbrev pub IsUsefulNote : Normal → List ℕ → ℕ → Bool → LinkFact → Note → Type 0
+IsUsefulNote n own a alone f note = IsOfUse n a f.role × IsAtomNote own a alone f note
+
+-- the fact of an atom of the clause, where it is eligible there, to this link
+abbrev pub IsAtomTold : Normal → List ℕ → List Elem → ℕ → LinkFact → Note → Type 0
+IsAtomTold n own c a f note =
+    Eligible n (Plain a) c × ((alone : Bool) × IsAlone c a alone × IsUsefulNote n own a alone f note)
 
 -- the link for the existential at this place, where it is eligible
 abbrev pub IsLinkAt : Normal → List ℕ → List Elem → ℕ → Note → Type 0
 IsLinkAt n own c i note = (r : ℕ) × (k : List ℕ) × (slice_index_or c i (Plain 0) ≡ Exist r k)
     × Eligible n (Exist r k) c × IsLinkNote own r k note
 
--- the back for the atom at this place, where it is eligible, to one of these links
-abbrev pub IsBackAt : Normal → List ℕ → List LinkFact → List Elem → ℕ → Note → Type 0
-IsBackAt n own links c i note =
-    (a : ℕ) × (slice_index_or c i (Plain 0) ≡ Plain a) × Eligible n (Plain a) c
-    × ((f : LinkFact) × OneOf f links × IsUsefulBack n own a f note)
+-- the fact of the atom at this place, where it is eligible, to one of these links
+abbrev pub IsToldAt : Normal → List ℕ → List LinkFact → List Elem → ℕ → Note → Type 0
+IsToldAt n own links c i note = (a : ℕ) × (slice_index_or c i (Plain 0) ≡ Plain a)
+    × ((f : LinkFact) × OneOf f links × IsAtomTold n own c a f note)
 
 -- the link for an eligible existential of the clause
 abbrev pub IsLinkOf : Normal → List ℕ → List Elem → Note → Type 0
 IsLinkOf n own c note = (r : ℕ) × (k : List ℕ) × Eligible n (Exist r k) c × IsLinkNote own r k note
 
--- the back for an eligible atom of the clause, or the dead for an empty one, to this link
+-- the fact of an eligible atom of the clause, or the dead for an empty one, to this link
 abbrev pub IsToldTo : Normal → List ℕ → List Elem → LinkFact → Note → Type 0
-IsToldTo n own c f note = ((c ≡ []) × IsDeadNote own f note)
-    ⊎ ((a : ℕ) × Eligible n (Plain a) c × IsUsefulBack n own a f note)
+IsToldTo n own c f note =
+    ((c ≡ []) × IsDeadNote own f note) ⊎ ((a : ℕ) × IsAtomTold n own c a f note)
 
 -- the same to one of these links
 abbrev pub IsToldBy : Normal → List ℕ → List LinkFact → List Elem → Note → Type 0

@@ -1,20 +1,13 @@
 -- The loop that closes a context: stored clauses wait to be taken up as premises.
-use Rattle.std.specs.Prelude.{◌≡◌, ℕ, ◌+◌, ◌-◌, ◌<◌, ◌≤◌, ◌⊎◌, List, [], ◌++◌, length, slice_index_or}
+use Rattle.std.specs.Prelude.{◌≡◌, ℕ, ◌+◌, ◌-◌, ◌<◌, ◌≤◌, ◌⊎◌, List, [], ◌++◌, length, filter, nat_lt, slice_index_or}
 use Rattle.cd_base.specs.Lists.{OneOf}
 use Rattle.cd_base.specs.declared.normal.Normal.{Normal}
 use Rattle.cd_clause.specs.declared.elem.Elem.{Elem}
 use Rattle.cd_clause.specs.Derivations.{Redundant}
 use Rattle.cd_clause.specs.Numbers.{picked}
-use Rattle.cd_rules.specs.declared.facts.BackFact.{BackFact}
-use Rattle.cd_rules.specs.declared.facts.DeadFact.{DeadFact}
-use Rattle.cd_rules.specs.Facts.{ConcludesFrom}
+use Rattle.cd_rules.specs.Facts.{ToldFacts, ConcludesFrom}
 use Rattle.cd_store.specs.Store.{StoreState, IsStore}
 use Rattle.cd_context.specs.Justified.{IsInTurn}
-
--- what a context was told of the contexts of its existentials
-pub record Told : Type 0 where
-  pub backs : List BackFact
-  pub deads : List DeadFact
 
 -- a live clause that doesn't wait any more
 abbrev pub IsTakenUp : List (List Elem) → List ℕ → List ℕ → List Elem → Type 0
@@ -22,10 +15,10 @@ IsTakenUp clauses live waiting c =
     (k : ℕ) × OneOf k live × (OneOf k waiting → ⊥) × (c ≡ slice_index_or clauses k [])
 
 -- each conclusion from clauses that were taken up is redundant, or is to be added yet
-abbrev pub ClosedUpTo : Normal → List ℕ → Told → List (List Elem) → List ℕ → List ℕ
+abbrev pub ClosedUpTo : Normal → List ℕ → ToldFacts → List (List Elem) → List ℕ → List ℕ
     → List (List Elem) → Type 0
 ClosedUpTo n key told clauses live waiting out =
-    (d : List Elem) → ConcludesFrom n key (IsTakenUp clauses live waiting) told.backs told.deads d
+    (d : List Elem) → ConcludesFrom n key (IsTakenUp clauses live waiting) told d
     → Redundant (picked clauses live) d ⊎ Redundant out d
 
 -- one of the numbers that wait is no longer there
@@ -41,9 +34,9 @@ pub record IsPutInto (n : ℕ) (old new : List ℕ) : Type 0 where
   pub count : length new ≡ length old + 1
 
 -- clauses are stored in turn, and those that wait are stored
-pub record IsWorking (n : Normal) (key : List ℕ) (told : Told) (clauses : List (List Elem))
+pub record IsWorking (n : Normal) (key : List ℕ) (told : ToldFacts) (clauses : List (List Elem))
     (waiting : List ℕ) : Type 0 where
-  pub in_turn : IsInTurn n key told.backs told.deads clauses
+  pub in_turn : IsInTurn n key told clauses
   pub in_range : (m : ℕ) → OneOf m waiting → m < length clauses
   pub fewer : length waiting ≤ length clauses
 
@@ -68,3 +61,10 @@ pub record Continues (old new : StoreState) : Type 0 where
   pub survivors : (k : ℕ) → OneOf k new.live → k < length old.clauses → OneOf k old.live
   -- it keeps what a store keeps
   pub store : IsStore old.clauses old.live → IsStore new.clauses new.live
+
+-- the new store with those of its live clauses alone that the old one has stored
+abbrev pub stored_before : StoreState → StoreState → StoreState
+stored_before old new = record {
+  clauses = new.clauses;
+  live = filter (λ k. nat_lt k (length old.clauses)) new.live;
+}

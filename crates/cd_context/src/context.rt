@@ -1,28 +1,35 @@
 //! A context.
-ghost use Rattle.std.specs.Prelude.{◌≡◌, ◌↔◌, ◌<◌, ◌⊎◌, ℕ, [], true, false, IsOk, IfOk, OnOk, OnErr};
+ghost use Rattle.std.specs.Prelude.{◌≡◌, ◌↔◌, ◌<◌, ◌⊎◌, ℕ, List, [], true, false, IsOk, IfOk, OnOk, OnErr};
 ghost use Rattle.std.specs.List.Sorted.{IsStrictlyIncreasing};
 ghost use Rattle.cd_base.specs.Lists.{OneOf};
 ghost use Rattle.cd_clause.specs.Derivations.{Reachable, IsSingle};
 ghost use Rattle.cd_context.specs.Absorbing.{Keeps, Absorbs};
 ghost use Rattle.cd_context.specs.Contract.{Grows, GainsOnly, Sends, ListsOwed};
 ghost use Rattle.cd_base.specs.Counts.{last};
+ghost use Rattle.cd_context.specs.FactLists.{state_of, told_in};
 ghost use Rattle.cd_context.specs.Facts.{has_fact, count};
-ghost use Rattle.cd_context.specs.Justified.{Justified, IsContext, ClosedLocally};
+ghost use Rattle.cd_context.specs.Justified.{Justified, IsContext, ClosedLocally, IsInTurn};
+ghost use Rattle.cd_context.specs.OpenNames.{IsOpenName};
 ghost use Rattle.cd_context.specs.Owes.{Owes};
 ghost use Rattle.cd_context.specs.State.{State, live_of};
-ghost use Rattle.cd_context.specs.declared.facts.Fact.TheVariants.{Link, Back, Dead};
+ghost use Rattle.cd_context.specs.TakeUp.{ClosedUpTo, Continues, stored_before};
+ghost use Rattle.cd_clause.specs.declared.elem.Elem.{Elem};
+ghost use Rattle.cd_rules.specs.Facts.{ConcludesFrom};
+ghost use Rattle.cd_context.specs.declared.facts.Fact.TheVariants.{Link, Back, Sure, Dead};
 
 use crate::closing::close_with;
 use crate::distinct::append_distinct;
 use crate::fact_lists::FactLists;
-use crate::fact_rules::{conclude_back, conclude_dead};
+use crate::fact_rules::{conclude_back, conclude_dead, conclude_sure};
 use crate::facts::{Fact, LinkFact, Note};
 use crate::live::{has_empty, has_single, singles};
+use crate::open::open_names;
 use crate::owing::{owe_link, owe_since};
 use crate::sending::send_since;
 use cd_base::{Atom, Key, Memory};
+use cd_clause::Clause;
 use cd_index::Index;
-use cd_rules::{BackFact, DeadFact, on_key};
+use cd_rules::{BackFact, DeadFact, SureFact, on_key};
 use cd_store::Store;
 use std::alloc::Global;
 use std::marker::Model;
@@ -46,6 +53,7 @@ impl Model for Context {
       live = c.store.live;
       links = c.facts.links;
       backs = c.facts.backs;
+      sures = c.facts.sures;
       deads = c.facts.deads;
     } };
 }
@@ -65,21 +73,21 @@ impl Context {
         ensures context { IfOk result (λ c. IsContext index.now.normal c) }
         ensures closed { IfOk result (λ c. ClosedLocally index.now.normal c) }
         ensures key { IfOk result (λ c. c.key ≡ key) }
-        ensures facts { IfOk result (λ c. (c.links ≡ []) × (c.backs ≡ []) × (c.deads ≡ [])) }
+        ensures facts { IfOk result
+            (λ c. (c.links ≡ []) × (c.backs ≡ []) × (c.sures ≡ []) × (c.deads ≡ [])) }
         ensures sends { IfOk result
             (λ c. Sends index.now.normal (Unit {0}) (λ note. ⊥) c out.old.items out.new.items) }
         ensures err { OnErr result (out.new.items ≡ out.old.items) }
     {
         let mut store = Store::new(alloc);
         let facts = FactLists::new(alloc);
-        let mut conclusions = Vec::new(alloc);
-        on_key(alloc, index, &key, &mut conclusions)?;
-        let backs = facts.backs();
-        let deads = facts.deads();
-        close_with(alloc, index, &key, backs, deads, &mut store, conclusions)?;
-        let links = facts.links();
-        send_since(alloc, index, &key, &store, links, 0, out)?;
-        Ok(Context { key, store, facts })
+        match close_first(alloc, index, &key, &facts, &mut store, out) {
+            Ok(()) => Ok(Context { key, store, facts }),
+            Err(memory) => {
+                drop((key, store, facts));
+                Err(memory)
+            }
+        }
     }
 
     /// Takes a fact. The context is closed again, and what it came to owe is appended to `out`. A fact that it has changes nothing.
@@ -118,7 +126,7 @@ impl Context {
 
     /// Takes a fact that it hasn't, as `absorb` does, for a caller that has asked.
     ///
-    /// For a link a walk over the live clauses, for a back or dead that of `conclude_back`, and the cost of `begin` for each clause that is
+    /// For a link a walk over the live clauses, for a back, sure or dead that of `conclude_back`, and the cost of `begin` for each clause that is
     /// taken up. After `Memory` as after that of `absorb`.
     pub fn absorb_new(
         &mut self,
@@ -148,6 +156,9 @@ impl Context {
             Fact::Link(key, role) => self.absorb_link(alloc, LinkFact { key, role }, index, out),
             Fact::Back(role, key, atom) => {
                 self.absorb_back(alloc, BackFact { role, key, atom }, index, out)
+            }
+            Fact::Sure(role, key, atom) => {
+                self.absorb_sure(alloc, SureFact { role, key, atom }, index, out)
             }
             Fact::Dead(role, key) => self.absorb_dead(alloc, DeadFact { role, key }, index, out),
         }
@@ -201,24 +212,54 @@ impl Context {
             (Back back.role back.key back.atom) self.new out.old.items out.new.items) }
         ensures err { OnErr result (out.new.items ≡ out.old.items) }
     {
-        let stored = self.store.clauses().len();
         let mut conclusions = Vec::new(alloc);
         conclude_back(alloc, index, &self.store, &back, &mut conclusions)?;
         self.facts.add_back(back)?;
-        let backs = self.facts.backs();
-        let deads = self.facts.deads();
-        close_with(
+        close_since(
             alloc,
             index,
             &self.key,
-            backs,
-            deads,
+            &self.facts,
             &mut self.store,
             conclusions,
-        )?;
-        let links = self.facts.links();
-        send_since(alloc, index, &self.key, &self.store, links, stored, out)?;
-        Ok(())
+            out,
+        )
+    }
+
+    /// Takes a sure that it didn't have, closes again, and appends what it came to owe.
+    ///
+    /// Linear in the clauses with its existential, with the cost of `begin` for each clause that is taken up. After `Memory` nothing was
+    /// appended, and it has the sure or not.
+    fn absorb_sure(
+        &mut self,
+        alloc: Global,
+        sure: SureFact,
+        index: &Index,
+        out: &mut Vec<Note>,
+    ) -> Result<(), Memory>
+        requires context { IsContext index.now.normal self.old }
+        requires closed { ClosedLocally index.now.normal self.old }
+        requires justified { Justified index.now.normal self.old.key
+            (Sure sure.role sure.key sure.atom) }
+        requires fresh { has_fact self.old (Sure sure.role sure.key sure.atom) ≡ false }
+        ensures keeps { Keeps index.now.normal self.old
+            (Sure sure.role sure.key sure.atom) self.new }
+        ensures ok { OnOk result (Absorbs index.now.normal self.old
+            (Sure sure.role sure.key sure.atom) self.new out.old.items out.new.items) }
+        ensures err { OnErr result (out.new.items ≡ out.old.items) }
+    {
+        let mut conclusions = Vec::new(alloc);
+        conclude_sure(alloc, index, &self.store, &sure, &mut conclusions)?;
+        self.facts.add_sure(sure)?;
+        close_since(
+            alloc,
+            index,
+            &self.key,
+            &self.facts,
+            &mut self.store,
+            conclusions,
+            out,
+        )
     }
 
     /// Takes a dead that it didn't have, closes again, and appends what it came to owe.
@@ -241,24 +282,18 @@ impl Context {
             (Dead dead.role dead.key) self.new out.old.items out.new.items) }
         ensures err { OnErr result (out.new.items ≡ out.old.items) }
     {
-        let stored = self.store.clauses().len();
         let mut conclusions = Vec::new(alloc);
         conclude_dead(alloc, index, &self.store, &dead, &mut conclusions)?;
         self.facts.add_dead(dead)?;
-        let backs = self.facts.backs();
-        let deads = self.facts.deads();
-        close_with(
+        close_since(
             alloc,
             index,
             &self.key,
-            backs,
-            deads,
+            &self.facts,
             &mut self.store,
             conclusions,
-        )?;
-        let links = self.facts.links();
-        send_since(alloc, index, &self.key, &self.store, links, stored, out)?;
-        Ok(())
+            out,
+        )
     }
 
     /// Its key, lent. Constant time.
@@ -275,15 +310,17 @@ impl Context {
         self.facts.has(fact)
     }
 
-    /// How many clauses it has stored, live or dead, with its links, backs and deads. Constant time.
+    /// How many clauses it has stored, live or dead, with its links, backs, sures and deads. Constant time.
     pub fn facts(&self) -> u64
         ensures { result ≡ count self.now }
     {
         let clauses = self.store.clauses().len() as u64;
         let links = self.facts.links().len() as u64;
         let backs = self.facts.backs().len() as u64;
+        let sures = self.facts.sures().len() as u64;
         let deads = self.facts.deads().len() as u64;
-        clauses.saturating_add(links.saturating_add(backs.saturating_add(deads)))
+        let told = backs.saturating_add(sures.saturating_add(deads));
+        clauses.saturating_add(links.saturating_add(told))
     }
 
     /// Whether the empty clause is live. Constant time: where it is, it is the last one that was stored.
@@ -311,6 +348,19 @@ impl Context {
         singles(alloc, clauses, live)
     }
 
+    /// The named atoms that it leaves open, ascending, each once: those that are the greatest element of a live clause with others. What the
+    /// context stands for may be below them or not.
+    ///
+    /// Linear in the live clauses; of each longer one without an existential its elements are compared; and `n log n` in the atoms.
+    pub fn open_names(&self, alloc: Global, index: &Index) -> Result<Vec<Atom>, Memory>
+        ensures { IfOk result (λ names. (b : ℕ) → OneOf b names.items
+            ↔ IsOpenName index.now.normal (live_of self.now) b) }
+    {
+        let clauses = self.store.clauses();
+        let live = self.store.live();
+        open_names(alloc, index.normal(), clauses, live)
+    }
+
     /// Appends all that it owes to others, each once. Linear in the live clauses times the links, with a look-up each. After `Memory` some
     /// of it may be there.
     pub fn list_owed(&self, alloc: Global, index: &Index, out: &mut Vec<Note>) -> Result<(), Memory>
@@ -321,4 +371,67 @@ impl Context {
         owe_since(alloc, index, &self.key, &self.store, links, 0, &mut owed)?;
         append_distinct(alloc, owed, out)
     }
+}
+
+/// Fills a store without clauses with what the rules conclude for the key alone, no fact but `Start` being had, and appends what is owed.
+///
+/// The cost is that of `Context::begin`. After `Memory` nothing was appended.
+fn close_first(
+    alloc: Global,
+    index: &Index,
+    key: &Key,
+    facts: &FactLists,
+    store: &mut Store,
+    out: &mut Vec<Note>,
+) -> Result<(), Memory>
+    requires reachable { Reachable index.now.normal key.now }
+    requires told { facts.now ≡ record { links = []; backs = []; sures = []; deads = [] } }
+    requires empty { store.old ≡ record { clauses = []; live = [] } }
+    ensures context { OnOk result
+        (IsContext index.now.normal (state_of key.now store.new facts.now)) }
+    ensures closed { OnOk result
+        (ClosedLocally index.now.normal (state_of key.now store.new facts.now)) }
+    ensures sends { OnOk result
+        (Sends index.now.normal (Unit {0}) (λ note. ⊥) (state_of key.now store.new facts.now)
+        out.old.items out.new.items) }
+    ensures err { OnErr result (out.new.items ≡ out.old.items) }
+{
+    let mut conclusions = Vec::new(alloc);
+    on_key(alloc, index, key, &mut conclusions)?;
+    close_since(alloc, index, key, facts, store, conclusions, out)
+}
+
+/// Adds the conclusions to a store that is closed but for them under these facts, closes it again, and appends what came to be owed by
+/// the clauses that are new.
+///
+/// The cost is that of `close_with`, and linear in the clauses that are new, each time in the links where a clause has an atom of use.
+/// After `Memory` nothing was appended.
+fn close_since(
+    alloc: Global,
+    index: &Index,
+    key: &Key,
+    facts: &FactLists,
+    store: &mut Store,
+    conclusions: Vec<Clause>,
+    out: &mut Vec<Note>,
+) -> Result<(), Memory>
+    requires closed { ClosedUpTo index.now.normal key.now (told_in facts.now) store.old.clauses
+        store.old.live [] conclusions.items }
+    requires in_turn { IsInTurn index.now.normal key.now (told_in facts.now) store.old.clauses }
+    requires concluded { (d : List Elem) → OneOf d conclusions.items
+        → ConcludesFrom index.now.normal key.now (λ c. OneOf c store.old.clauses)
+        (told_in facts.now) d }
+    ensures closed { OnOk result
+        (ClosedUpTo index.now.normal key.now (told_in facts.now) store.new.clauses
+        store.new.live [] []) }
+    ensures in_turn { IsInTurn index.now.normal key.now (told_in facts.now) store.new.clauses }
+    ensures continues { Continues store.old store.new }
+    ensures sends { OnOk result (Sends index.now.normal (Unit {0})
+        (Owes index.now.normal (state_of key.now (stored_before store.old store.new) facts.now))
+        (state_of key.now store.new facts.now) out.old.items out.new.items) }
+    ensures err { OnErr result (out.new.items ≡ out.old.items) }
+{
+    let stored = store.clauses().len();
+    close_with(alloc, index, key, facts, store, conclusions)?;
+    send_since(alloc, index, key, store, facts.links(), stored, out)
 }

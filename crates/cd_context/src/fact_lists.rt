@@ -5,7 +5,7 @@ ghost use Rattle.cd_context.specs.Facts.{has_fact};
 
 use crate::facts::{Fact, LinkFact};
 use cd_base::Memory;
-use cd_rules::{BackFact, DeadFact};
+use cd_rules::{BackFact, DeadFact, SureFact};
 use indexmap::IndexSet;
 use std::alloc::Global;
 use std::marker::Model;
@@ -19,6 +19,7 @@ pub(crate) struct FactLists {
     all: IndexSet<Fact>,
     links: Vec<LinkFact>,
     backs: Vec<BackFact>,
+    sures: Vec<SureFact>,
     deads: Vec<DeadFact>,
 }
 
@@ -30,22 +31,29 @@ impl Model for FactLists {
     ghost view = { λ l. record {
       links = l.links.items;
       backs = l.backs.items;
+      sures = l.sures.items;
       deads = l.deads.items;
     } };
 
     ghost invariant = { λ l. Ties l.all.keys
-        (record { links = l.links.items; backs = l.backs.items; deads = l.deads.items }) };
+        (record {
+          links = l.links.items;
+          backs = l.backs.items;
+          sures = l.sures.items;
+          deads = l.deads.items;
+        }) };
 }
 
 impl FactLists {
     /// No facts. Takes no memory and constant time.
     pub(crate) fn new(alloc: Global) -> FactLists
-        ensures { result ≡ record { links = []; backs = []; deads = [] } }
+        ensures { result ≡ record { links = []; backs = []; sures = []; deads = [] } }
     {
         FactLists {
             all: IndexSet::new(alloc),
             links: Vec::new(alloc),
             backs: Vec::new(alloc),
+            sures: Vec::new(alloc),
             deads: Vec::new(alloc),
         }
     }
@@ -64,6 +72,13 @@ impl FactLists {
         self.backs.as_slice()
     }
 
+    /// The sures, lent. Constant time.
+    pub(crate) fn sures(&self) -> &[SureFact]
+        ensures { result.now ≡ self.now.sures }
+    {
+        self.sures.as_slice()
+    }
+
     /// The deads, lent. Constant time.
     pub(crate) fn deads(&self) -> &[DeadFact]
         ensures { result.now ≡ self.now.deads }
@@ -80,6 +95,7 @@ impl FactLists {
               live = live;
               links = self.now.links;
               backs = self.now.backs;
+              sures = self.now.sures;
               deads = self.now.deads;
             }) fact.now }
     {
@@ -95,6 +111,7 @@ impl FactLists {
             ≡ record {
               links = self.old.links ++ link ∷ [];
               backs = self.old.backs;
+              sures = self.old.sures;
               deads = self.old.deads;
             }) }
         ensures err { OnErr result (self.new ≡ self.old) }
@@ -112,6 +129,7 @@ impl FactLists {
             ≡ record {
               links = self.old.links;
               backs = self.old.backs ++ back ∷ [];
+              sures = self.old.sures;
               deads = self.old.deads;
             }) }
         ensures err { OnErr result (self.new ≡ self.old) }
@@ -123,12 +141,31 @@ impl FactLists {
         Ok(())
     }
 
+    /// Puts the sure at the end of the sures. One look-up, and linear in the literals of the key.
+    pub(crate) fn add_sure(&mut self, sure: SureFact) -> Result<(), Memory>
+        ensures ok { OnOk result (self.new
+            ≡ record {
+              links = self.old.links;
+              backs = self.old.backs;
+              sures = self.old.sures ++ sure ∷ [];
+              deads = self.old.deads;
+            }) }
+        ensures err { OnErr result (self.new ≡ self.old) }
+    {
+        let fact = Fact::Sure(sure.role, sure.key.copy()?, sure.atom);
+        self.sures.reserve(1)?;
+        self.all.insert(fact)?;
+        self.sures.push_reserved(sure);
+        Ok(())
+    }
+
     /// Puts the dead at the end of the deads. One look-up, and linear in the literals of the key.
     pub(crate) fn add_dead(&mut self, dead: DeadFact) -> Result<(), Memory>
         ensures ok { OnOk result (self.new
             ≡ record {
               links = self.old.links;
               backs = self.old.backs;
+              sures = self.old.sures;
               deads = self.old.deads ++ dead ∷ [];
             }) }
         ensures err { OnErr result (self.new ≡ self.old) }

@@ -1,4 +1,4 @@
-//! What a new back or dead gives with the live clauses.
+//! What a new back, sure or dead gives with the live clauses.
 //!
 //! A context may have thousands of live clauses, and as many facts. A fact is of use to those clauses alone that have its existential, which
 //! the store finds.
@@ -7,13 +7,13 @@ ghost use Rattle.cd_base.specs.Lists.{OneOf};
 ghost use Rattle.cd_clause.specs.declared.elem.Elem.TheVariants.{Exist};
 ghost use Rattle.cd_base.specs.Appends.{Appends};
 ghost use Rattle.cd_rules.specs.Among.{Among};
-ghost use Rattle.cd_rules.specs.Uses.{FromBack, FromDead};
+ghost use Rattle.cd_rules.specs.Uses.{FromBack, FromSure, FromDead};
 ghost use Rattle.cd_store.specs.LookUps.{HasElem};
 
 use cd_base::{Key, Memory, Role};
 use cd_clause::Clause;
 use cd_index::Index;
-use cd_rules::{BackFact, DeadFact, on_back, on_dead};
+use cd_rules::{BackFact, DeadFact, SureFact, on_back, on_dead, on_sure};
 use cd_store::Store;
 use std::alloc::Global;
 
@@ -34,6 +34,24 @@ pub(crate) fn conclude_back(
 {
     let numbers = live_with(alloc, store, back.role, &back.key)?;
     let done = on_back(index, store.clauses(), numbers.as_slice(), back, out);
+    drop(numbers);
+    done
+}
+
+/// Appends every conclusion that uses the sure, with the live clauses, and no other. The cost, and `Memory`, are as for `conclude_back`.
+pub(crate) fn conclude_sure(
+    alloc: Global,
+    index: &Index,
+    store: &Store,
+    sure: &SureFact,
+    out: &mut Vec<Clause>,
+) -> Result<(), Memory>
+    ensures { (key : List ℕ) → Appends Among
+        (FromSure index.now.normal key store.now.clauses store.now.live sure.now)
+        (IsOk result) out.old.items out.new.items }
+{
+    let numbers = live_with(alloc, store, sure.role, &sure.key)?;
+    let done = on_sure(index, store.clauses(), numbers.as_slice(), sure, out);
     drop(numbers);
     done
 }

@@ -15,6 +15,8 @@ pub enum Fact {
     Link(Key, Role),
     /// This context has an existential of this role and key, in whose context some clause has this atom, eligible.
     Back(Role, Key, Atom),
+    /// This context has an existential of this role and key, whose context has the clause of this atom alone.
+    Sure(Role, Key, Atom),
     /// This context has an existential of this role and key, whose context has the empty clause.
     Dead(Role, Key),
 }
@@ -52,8 +54,14 @@ impl Hash for Fact {
                 key.hash(state);
                 atom.0.hash(state);
             }
-            Fact::Dead(role, key) => {
+            Fact::Sure(role, key, atom) => {
                 state.write_u8(3);
+                role.0.hash(state);
+                key.hash(state);
+                atom.0.hash(state);
+            }
+            Fact::Dead(role, key) => {
+                state.write_u8(4);
                 role.0.hash(state);
                 key.hash(state);
             }

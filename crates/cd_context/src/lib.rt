@@ -17,6 +17,7 @@ mod facts;
 mod laws;
 mod live;
 mod notes;
+mod open;
 mod owing;
 mod sending;
 mod waiting;

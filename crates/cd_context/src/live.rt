@@ -21,7 +21,7 @@ pub(crate) fn has_empty(clauses: &[Clause], live: &[usize]) -> bool
     if count == 0 {
         return false;
     }
-    // No clause contains an earlier one, so nothing is stored after the empty clause.
+    // No clause is covered by an earlier one, and the empty clause covers all, so nothing is stored after it.
     let at = live[count - 1];
     let newest = &clauses[at];
     newest.elems().is_empty()
@@ -43,7 +43,7 @@ pub(crate) fn has_single(clauses: &[Clause], live: &[usize], atom: Atom) -> bool
 }
 
 /// Whether the clause is that of this atom alone. Constant time.
-fn is_single(clause: &Clause, atom: Atom) -> bool
+pub(crate) fn is_single(clause: &Clause, atom: Atom) -> bool
     ensures { (result ≡ true) ↔ SameSet clause.now (Plain atom ∷ []) }
 {
     is_only(clause.elems(), atom)

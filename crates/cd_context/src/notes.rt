@@ -1,13 +1,14 @@
 //! The notes that one clause makes: a link for each existential that is eligible, and for each context that has an existential to this
-//! one a back for each atom that is eligible and of use there, or a dead where the clause is empty.
+//! one a back for each atom that is eligible and of use there, a sure where the atom is alone, or a dead where the clause is empty.
 ghost use Rattle.std.specs.Prelude.{◌≡◌, ◌↔◌, ◌<◌, length, true, IsOk};
 ghost use Rattle.cd_base.specs.Lists.{OneOf};
 ghost use Rattle.cd_rules.specs.LookUps.{AreAtAtom};
 ghost use Rattle.cd_base.specs.Appends.{Appends};
-ghost use Rattle.cd_context.specs.OwedParts.{IsUnderOne, IsLinkNote, IsBackNote, IsDeadNote, IsUsefulBack, IsLinkAt, IsBackAt, IsLinkOf, IsToldBy};
+ghost use Rattle.cd_context.specs.OwedParts.{IsUnderOne, IsLinkNote, IsDeadNote, IsUsefulNote, IsAtomNote, IsLinkAt, IsToldAt, IsLinkOf, IsToldBy, atom_fact};
 ghost use Rattle.cd_context.specs.declared.facts.LinkFact.{LinkFact};
 
 use crate::facts::{Fact, LinkFact, Note};
+use crate::live::is_single;
 use cd_base::{Atom, Key, Memory, Role, Triple};
 use cd_clause::{Clause, Elem, eligible};
 use cd_index::Index;
@@ -88,8 +89,8 @@ pub(crate) fn tell(
     Ok(())
 }
 
-/// Appends the backs where the element at place `i` is an atom that is eligible. Linear in the clause, and in the links where the atom
-/// is of use by some axiom.
+/// Appends what is told of the atom at place `i`, where the element there is one that is eligible: backs, or sures where it is alone.
+/// Linear in the clause, and in the links where the atom is of use by some axiom.
 fn tell_at(
     index: &Index,
     key: &Key,
@@ -99,14 +100,15 @@ fn tell_at(
     out: &mut Vec<Note>,
 ) -> Result<(), Memory>
     requires { i < length clause.now }
-    ensures { Appends OneOf (IsBackAt index.now.normal key.now links.now clause.now i)
+    ensures { Appends OneOf (IsToldAt index.now.normal key.now links.now clause.now i)
         (IsOk result) out.old.items out.new.items }
 {
     match &clause.elems()[i] {
         Elem::Exist(_, _) => Ok(()),
         Elem::Plain(atom) => {
             if eligible(clause, i, index.normal()) {
-                tell_atom(index, key, *atom, links, out)
+                let alone = is_single(clause, *atom);
+                tell_atom(index, key, *atom, alone, links, out)
             } else {
                 Ok(())
             }
@@ -114,17 +116,18 @@ fn tell_at(
     }
 }
 
-/// Appends a back of the atom for each link where it is of use. Constant time for an atom that no axiom makes of use, and else linear in
-/// the links and these axioms.
+/// Appends the fact of the atom for each link where it is of use. Constant time for an atom that no axiom makes of use, and else linear
+/// in the links and these axioms.
 fn tell_atom(
     index: &Index,
     key: &Key,
     atom: Atom,
+    alone: bool,
     links: &[LinkFact],
     out: &mut Vec<Note>,
 ) -> Result<(), Memory>
     ensures { Appends OneOf (λ note. (f : LinkFact) × OneOf f links.now
-        × IsUsefulBack index.now.normal key.now atom f note)
+        × IsUsefulNote index.now.normal key.now atom alone f note)
         (IsOk result) out.old.items out.new.items }
 {
     let axioms = backs(index, atom);
@@ -133,27 +136,28 @@ fn tell_atom(
     }
     let mut rest = links;
     'links: while let [link, others @ ..] = rest {
-        tell_back(index, key, atom, axioms, link, out)?;
+        tell_one(index, key, atom, alone, axioms, link, out)?;
         rest = others;
     }
     Ok(())
 }
 
-/// Appends the back of the atom, which has these axioms, where it is of use for the link. Linear in the axioms.
-fn tell_back(
+/// Appends the fact of the atom, which has these axioms, where it is of use for the link. Linear in the axioms.
+fn tell_one(
     index: &Index,
     key: &Key,
     atom: Atom,
+    alone: bool,
     axioms: &[Triple],
     link: &LinkFact,
     out: &mut Vec<Note>,
 ) -> Result<(), Memory>
     requires { AreAtAtom index.now.normal.n3 atom axioms.now }
-    ensures { Appends OneOf (IsUsefulBack index.now.normal key.now atom link.now)
+    ensures { Appends OneOf (IsUsefulNote index.now.normal key.now atom alone link.now)
         (IsOk result) out.old.items out.new.items }
 {
     if is_under_one(index, axioms, link.role) {
-        note_back(key, atom, link, out)
+        note_atom(key, atom, alone, link, out)
     } else {
         Ok(())
     }
@@ -171,16 +175,33 @@ fn is_under_one(index: &Index, axioms: &[Triple], role: Role) -> bool
     }
 }
 
-/// Appends the back of the atom for the link. Linear in both keys.
-fn note_back(key: &Key, atom: Atom, link: &LinkFact, out: &mut Vec<Note>) -> Result<(), Memory>
-    ensures { Appends OneOf (IsBackNote key.now atom link.now)
+/// Appends the fact of the atom for the link. Linear in both keys.
+fn note_atom(
+    key: &Key,
+    atom: Atom,
+    alone: bool,
+    link: &LinkFact,
+    out: &mut Vec<Note>,
+) -> Result<(), Memory>
+    ensures { Appends OneOf (IsAtomNote key.now atom alone link.now)
         (IsOk result) out.old.items out.new.items }
 {
     out.push(Note {
         key: link.key.copy()?,
-        fact: Fact::Back(link.role, key.copy()?, atom),
+        fact: atom_fact(alone, link.role, key.copy()?, atom),
     })?;
     Ok(())
+}
+
+/// What is told of an atom: a sure where it is alone in its clause, and else a back. Constant time.
+fn atom_fact(alone: bool, role: Role, key: Key, atom: Atom) -> Fact
+    ensures { result ≡ atom_fact alone role key atom }
+{
+    if alone {
+        Fact::Sure(role, key, atom)
+    } else {
+        Fact::Back(role, key, atom)
+    }
 }
 
 /// Appends a dead for each link. Linear in the links.

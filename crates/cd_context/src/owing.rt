@@ -9,6 +9,7 @@ ghost use Rattle.cd_context.specs.OwedParts.{AreFrom, IsOwedBy, IsToldBy};
 ghost use Rattle.cd_context.specs.declared.facts.LinkFact.{LinkFact};
 ghost use Rattle.cd_rules.specs.declared.facts.BackFact.{BackFact};
 ghost use Rattle.cd_rules.specs.declared.facts.DeadFact.{DeadFact};
+ghost use Rattle.cd_rules.specs.declared.facts.SureFact.{SureFact};
 
 use crate::facts::{LinkFact, Note};
 use crate::notes::{note_links, tell};
@@ -19,7 +20,7 @@ use cd_store::Store;
 use std::alloc::Global;
 
 /// Appends what the live clauses with numbers from `stored` on owe: links to the keys of their existentials, and, to each context that
-/// has an existential to this one, backs for their atoms, and deads where one of them is empty.
+/// has an existential to this one, backs for their atoms, sures for those that are alone, and deads where one of them is empty.
 ///
 /// Linear in these clauses, each time in the links where a clause has an atom of use.
 pub(crate) fn owe_since(
@@ -31,13 +32,15 @@ pub(crate) fn owe_since(
     stored: usize,
     out: &mut Vec<Note>,
 ) -> Result<(), Memory>
-    ensures { (backs : List BackFact) (deads : List DeadFact) → Sends index.now.normal (IsOk result)
+    ensures { (backs : List BackFact) (sures : List SureFact) (deads : List DeadFact)
+        → Sends index.now.normal (IsOk result)
         (Owes index.now.normal (record {
           key = key.now;
           clauses = store.now.clauses;
           live = filter (λ k. nat_lt k stored) store.now.live;
           links = links.now;
           backs = backs;
+          sures = sures;
           deads = deads;
         }))
         (record {
@@ -46,6 +49,7 @@ pub(crate) fn owe_since(
           live = store.now.live;
           links = links.now;
           backs = backs;
+          sures = sures;
           deads = deads;
         })
         out.old.items out.new.items }
@@ -106,8 +110,8 @@ fn owe_one(
     tell(index, key, clause, links, out)
 }
 
-/// Appends what the context owes to one that is found to have an existential to it: backs for the atoms of its live clauses, and a dead
-/// where one of them is empty. Linear in the live clauses.
+/// Appends what the context owes to one that is found to have an existential to it: backs for the atoms of its live clauses,
+/// sures for those that are alone in one, and a dead where one of them is empty. Linear in the live clauses.
 pub(crate) fn owe_link(
     alloc: Global,
     index: &Index,
@@ -116,14 +120,15 @@ pub(crate) fn owe_link(
     link: &LinkFact,
     out: &mut Vec<Note>,
 ) -> Result<(), Memory>
-    ensures { (earlier : List LinkFact) (backs : List BackFact) (deads : List DeadFact)
-        → Sends index.now.normal (IsOk result)
+    ensures { (earlier : List LinkFact) (backs : List BackFact) (sures : List SureFact)
+        (deads : List DeadFact) → Sends index.now.normal (IsOk result)
         (Owes index.now.normal (record {
           key = key.now;
           clauses = store.now.clauses;
           live = store.now.live;
           links = earlier;
           backs = backs;
+          sures = sures;
           deads = deads;
         }))
         (record {
@@ -132,6 +137,7 @@ pub(crate) fn owe_link(
           live = store.now.live;
           links = earlier ++ link.now ∷ [];
           backs = backs;
+          sures = sures;
           deads = deads;
         })
         out.old.items out.new.items }

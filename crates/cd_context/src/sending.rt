@@ -4,6 +4,7 @@ ghost use Rattle.cd_context.specs.Contract.{Sends};
 ghost use Rattle.cd_context.specs.Owes.{Owes};
 ghost use Rattle.cd_rules.specs.declared.facts.BackFact.{BackFact};
 ghost use Rattle.cd_rules.specs.declared.facts.DeadFact.{DeadFact};
+ghost use Rattle.cd_rules.specs.declared.facts.SureFact.{SureFact};
 
 use crate::facts::{LinkFact, Note};
 use crate::owing::owe_since;
@@ -24,7 +25,7 @@ pub(crate) fn send_since(
     stored: usize,
     out: &mut Vec<Note>,
 ) -> Result<(), Memory>
-    ensures ok { OnOk result ((backs : List BackFact) (deads : List DeadFact)
+    ensures ok { OnOk result ((backs : List BackFact) (sures : List SureFact) (deads : List DeadFact)
         → Sends index.now.normal (Unit {0})
         (Owes index.now.normal (record {
           key = key.now;
@@ -32,6 +33,7 @@ pub(crate) fn send_since(
           live = filter (λ k. nat_lt k stored) store.now.live;
           links = links.now;
           backs = backs;
+          sures = sures;
           deads = deads;
         }))
         (record {
@@ -40,6 +42,7 @@ pub(crate) fn send_since(
           live = store.now.live;
           links = links.now;
           backs = backs;
+          sures = sures;
           deads = deads;
         })
         out.old.items out.new.items) }

@@ -4,7 +4,7 @@ use Rattle.std.proofs.lemmas.List.{nil_from_length}
 use Rattle.cd_base.specs.Appends.{Appends}
 use Rattle.cd_base.specs.Lists.{OneOf}
 use Rattle.cd_base.proofs.Appending.{OfBelow, below_begins, below_goes, below_stops, failed, member_grows}
-use Rattle.cd_context.specs.OwedParts.{IsBackAt}
+use Rattle.cd_context.specs.OwedParts.{IsToldAt}
 use Rattle.cd_context.proofs.Owed.{deads_end, told_end}
 use Rattle.cd_context.proofs.notes.tell.Goals as goal
 
@@ -16,11 +16,11 @@ returns-then-count-eq0 c =
     (nil_from_length clause short) c.tell_deads.ensures
 
 pub places-init : goal.places-init
-places-init c = below_begins (IsBackAt c.args.index.now.normal c.args.key.now c.args.links.now c.args.clause.now) c.args.out.now.items
+places-init c = below_begins (IsToldAt c.args.index.now.normal c.args.key.now c.args.links.now c.args.clause.now) c.args.out.now.items
 
 pub returns-in_err-tell_at : goal.returns-in_err-tell_at
 returns-in_err-tell_at c =
-    let Q = IsBackAt c.args.index.now.normal c.args.key.now c.args.links.now c.args.clause.now in
+    let Q = IsToldAt c.args.index.now.normal c.args.key.now c.args.links.now c.args.clause.now in
     let count = length c.elems-count.result.now in
     told_end c.args.index.now.normal c.args.key.now c.args.links.now c.args.clause.now count (IsOk c.from_residual.result) (IsOk c.from_residual.result) c.args.out.now.items c.tell_at.new.out.items
     (ap length c.elems-count.ensures.elems) (λ e. grind (arith, e)) (λ h. h)
@@ -29,12 +29,12 @@ returns-in_err-tell_at c =
 
 pub places-preserved : goal.places-preserved
 places-preserved c =
-    below_goes member_grows (IsBackAt c.args.index.now.normal c.args.key.now c.args.links.now c.args.clause.now) c.places.i (true ≡ true) c.args.out.now.items c.places.out.items c.tell_at.new.out.items
+    below_goes member_grows (IsToldAt c.args.index.now.normal c.args.key.now c.args.links.now c.args.clause.now) c.places.i (true ≡ true) c.args.out.now.items c.places.out.items c.tell_at.new.out.items
     c.places.invariant c.in_ok-tell_at.ensures refl
 
 pub returns : goal.returns
 returns c =
-    let Q = IsBackAt c.args.index.now.normal c.args.key.now c.args.links.now c.args.clause.now in
+    let Q = IsToldAt c.args.index.now.normal c.args.key.now c.args.links.now c.args.clause.now in
     let count = length c.elems-count.result.now in
     let all : c.places.i ≡ count = grind arith in
     told_end c.args.index.now.normal c.args.key.now c.args.links.now c.args.clause.now count (Unit {0}) (true ≡ true) c.args.out.now.items c.places.out.items

@@ -25,4 +25,4 @@ returns-clause-ok c =
     rw c.in_ok-add_link.ensures.ok (absorbs_of n _ c.args.self.now fact _ c.args.out.now.items c.append.new.self.items c.self.view_is
     (absorbs_link n _ c.args.link (c.self.inside.facts.links ++ c.args.link ∷ []) (subst (λ s. IsContext n s) (sym c.self.view_is) c.requires.context) (subst (λ s. ClosedLocally n s) (sym c.self.view_is) c.requires.closed)
     (subst (λ s. Justified n s.key fact) (sym c.self.view_is) c.requires.justified) (subst (λ s. has_fact s (Link c.args.link.key c.args.link.role) ≡ false) (sym c.self.view_is) c.requires.fresh) refl c.args.out.now.items c.append.new.self.items
-    (sends_moved n _ _ _ _ c.owe_link.new.out.items c.args.out.now.items c.append.new.self.items c.new-notes.ensures.items (c.in_ok-owe_link.ensures c.self.inside.facts.links c.self.inside.facts.backs c.self.inside.facts.deads) refl c.in_ok-append.ensures.items)))
+    (sends_moved n _ _ _ _ c.owe_link.new.out.items c.args.out.now.items c.append.new.self.items c.new-notes.ensures.items (c.in_ok-owe_link.ensures c.self.inside.facts.links c.self.inside.facts.backs c.self.inside.facts.sures c.self.inside.facts.deads) refl c.in_ok-append.ensures.items)))

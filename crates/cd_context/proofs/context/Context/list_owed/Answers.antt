@@ -17,12 +17,12 @@ returns c =
     let owed = c.owe_since.new.out.items in
     let from = c.new-owed.result.items in
     let sent = subst (λ (l : List LinkFact). Sends n (true ≡ true)
-    (Owes n (record { key = s.key; clauses = s.store.clauses; live = filter (λ k. nat_lt k 0) s.store.live; links = l; backs = s.facts.backs; deads = s.facts.deads }))
-    (record { key = s.key; clauses = s.store.clauses; live = s.store.live; links = l; backs = s.facts.backs; deads = s.facts.deads }) from owed)
-    c.links-links.ensures (c.in_ok-owe_since.ensures s.facts.backs s.facts.deads) in
+    (Owes n (record { key = s.key; clauses = s.store.clauses; live = filter (λ k. nat_lt k 0) s.store.live; links = l; backs = s.facts.backs; sures = s.facts.sures; deads = s.facts.deads }))
+    (record { key = s.key; clauses = s.store.clauses; live = s.store.live; links = l; backs = s.facts.backs; sures = s.facts.sures; deads = s.facts.deads }) from owed)
+    c.links-links.ensures (c.in_ok-owe_since.ensures s.facts.backs s.facts.sures s.facts.deads) in
     let sends = subst (λ (l : List Note). Sends n (true ≡ true)
-    (Owes n (record { key = s.key; clauses = s.store.clauses; live = filter (λ k. nat_lt k 0) s.store.live; links = s.facts.links; backs = s.facts.backs; deads = s.facts.deads }))
-    (record { key = s.key; clauses = s.store.clauses; live = s.store.live; links = s.facts.links; backs = s.facts.backs; deads = s.facts.deads }) l owed)
+    (Owes n (record { key = s.key; clauses = s.store.clauses; live = filter (λ k. nat_lt k 0) s.store.live; links = s.facts.links; backs = s.facts.backs; sures = s.facts.sures; deads = s.facts.deads }))
+    (record { key = s.key; clauses = s.store.clauses; live = s.store.live; links = s.facts.links; backs = s.facts.backs; sures = s.facts.sures; deads = s.facts.deads }) l owed)
     c.new-owed.ensures.items sent in
     subst (λ (v : State). ListsOwed n done v c.args.out.now.items c.append_distinct.new.out.items) c.self.view_is
-    (lists_owed n s.key s.store.clauses s.store.live s.facts.links s.facts.backs s.facts.deads owed c.args.out.now.items c.append_distinct.new.out.items done sends c.append_distinct.ensures)
+    (lists_owed n s.key s.store.clauses s.store.live s.facts.links s.facts.backs s.facts.sures s.facts.deads owed c.args.out.now.items c.append_distinct.new.out.items done sends c.append_distinct.ensures)

@@ -1,0 +1,76 @@
+use Rattle.std.proofs.Common.{false, ◌≡◌, ◌∷◌, ◌++◌, List, [], refl, sym, subst}
+use Rattle.cd_base.specs.Lists.{OneOf}
+use Rattle.cd_clause.specs.Derivations.{Redundant}
+use Rattle.cd_clause.specs.declared.elem.Elem.{Elem}
+use Rattle.cd_rules.specs.Facts.{ConcludesFrom}
+use Rattle.cd_rules.specs.Uses.{FromSure}
+use Rattle.cd_context.specs.Contract.{Sends}
+use Rattle.cd_context.specs.FactLists.{ByKind, state_of, told_in}
+use Rattle.cd_context.specs.declared.facts.Fact.TheVariants.{Sure}
+use Rattle.cd_context.specs.Facts.{has_fact}
+use Rattle.cd_context.specs.Justified.{Justified, IsContext, ClosedLocally, IsInTurn}
+use Rattle.cd_context.specs.Owes.{Owes}
+use Rattle.cd_context.specs.TakeUp.{ClosedUpTo, stored_before}
+use Rattle.cd_context.proofs.Absorb.{on_ok_both, keeps_of, absorbs_of, keeps_sure, absorbs_sure}
+use Rattle.cd_context.proofs.Appended.{appended_only, appended_every}
+use Rattle.cd_context.proofs.ToldMore.{in_turn_with_sure, closed_after_sure, concluded_by_sure}
+use Rattle.cd_context.proofs.context.Context.absorb_sure.Goals as goal
+
+pub close_since-requires-clause-closed : goal.close_since-requires-clause-closed
+close_since-requires-clause-closed c =
+    let n = c.args.index.now.normal in
+    let key = c.self.inside.key in
+    let store = c.self.inside.store in
+    let every : (d : List Elem) → FromSure n key store.clauses store.live c.args.sure d → Redundant c.conclude_sure.new.out.items d
+    = appended_every _ _ _ _ c.new-conclusions.ensures.items (c.in_ok-conclude_sure.ensures key) refl in
+    subst (λ (l : ByKind). ClosedUpTo n key (told_in l) store.clauses store.live [] c.conclude_sure.new.out.items) (sym c.in_ok-add_sure.ensures.ok)
+    (closed_after_sure n key (told_in c.self.inside.facts) c.args.sure store.clauses store.live c.conclude_sure.new.out.items (subst (λ s. ClosedLocally n s) (sym c.self.view_is) c.requires.closed) every)
+
+pub close_since-requires-clause-in_turn : goal.close_since-requires-clause-in_turn
+close_since-requires-clause-in_turn c =
+    let n = c.args.index.now.normal in
+    let key = c.self.inside.key in
+    let store = c.self.inside.store in
+    let kept = subst (λ s. IsContext n s) (sym c.self.view_is) c.requires.context in
+    subst (λ (l : ByKind). IsInTurn n key (told_in l) store.clauses) (sym c.in_ok-add_sure.ensures.ok)
+    (in_turn_with_sure n key (told_in c.self.inside.facts) c.args.sure store.clauses store.live kept.in_turn)
+
+pub close_since-requires-clause-concluded : goal.close_since-requires-clause-concluded
+close_since-requires-clause-concluded c = λ d m.
+    let n = c.args.index.now.normal in
+    let key = c.self.inside.key in
+    let store = c.self.inside.store in
+    let kept = subst (λ s. IsContext n s) (sym c.self.view_is) c.requires.context in
+    let q : FromSure n key store.clauses store.live c.args.sure d = appended_only _ _ _ _ c.new-conclusions.ensures.items (c.in_ok-conclude_sure.ensures key) d m in
+    subst (λ (l : ByKind). ConcludesFrom n key (λ e. OneOf e store.clauses) (told_in l) d) (sym c.in_ok-add_sure.ensures.ok)
+    (concluded_by_sure n key (told_in c.self.inside.facts) c.args.sure store.clauses store.live kept.store.in_range d q)
+
+pub returns-clause-keeps : goal.returns-clause-keeps
+returns-clause-keeps c =
+    let n = c.args.index.now.normal in
+    let kept = subst (λ s. IsContext n s) (sym c.self.view_is) c.requires.context in
+    let new = c.close_since.new.store in
+    rw c.in_ok-add_sure.ensures.ok (keeps_of n _ c.args.self.now _ c.self.view_is
+    (keeps_sure n _ c.args.sure (c.self.inside.facts.sures ++ c.args.sure ∷ []) new.clauses new.live kept
+    (subst (λ s. Justified n s.key (Sure c.args.sure.role c.args.sure.key c.args.sure.atom)) (sym c.self.view_is) c.requires.justified)
+    (subst (λ s. has_fact s (Sure c.args.sure.role c.args.sure.key c.args.sure.atom) ≡ false) (sym c.self.view_is) c.requires.fresh) refl
+    (subst (λ (l : ByKind). IsInTurn n c.self.inside.key (told_in l) new.clauses) c.in_ok-add_sure.ensures.ok c.close_since.ensures.in_turn)
+    (c.close_since.ensures.continues.store kept.store) c.close_since.ensures.continues))
+
+pub returns-clause-ok : goal.returns-clause-ok
+returns-clause-ok c =
+    let n = c.args.index.now.normal in
+    let key = c.self.inside.key in
+    let kept = subst (λ s. IsContext n s) (sym c.self.view_is) c.requires.context in
+    let new = c.close_since.new.store in
+    let ok = c.in_ok-add_sure.ensures.ok in
+    rw ok (on_ok_both c.close_since.result
+    (λ closed sends. absorbs_of n _ c.args.self.now (Sure c.args.sure.role c.args.sure.key c.args.sure.atom) _ c.args.out.now.items c.close_since.new.out.items c.self.view_is
+    (absorbs_sure n _ c.args.sure (c.self.inside.facts.sures ++ c.args.sure ∷ []) new.clauses new.live kept
+    (subst (λ s. Justified n s.key (Sure c.args.sure.role c.args.sure.key c.args.sure.atom)) (sym c.self.view_is) c.requires.justified)
+    (subst (λ s. has_fact s (Sure c.args.sure.role c.args.sure.key c.args.sure.atom) ≡ false) (sym c.self.view_is) c.requires.fresh) refl
+    (subst (λ (l : ByKind). IsInTurn n key (told_in l) new.clauses) ok c.close_since.ensures.in_turn)
+    (c.close_since.ensures.continues.store kept.store) c.close_since.ensures.continues c.args.out.now.items c.close_since.new.out.items
+    (subst (λ (l : ByKind). ClosedUpTo n key (told_in l) new.clauses new.live [] []) ok closed)
+    (subst (λ (l : ByKind). Sends n (Unit {0}) (Owes n (state_of key (stored_before c.self.inside.store new) l)) (state_of key new l) c.args.out.now.items c.close_since.new.out.items) ok sends)))
+    c.close_since.ensures.closed c.close_since.ensures.sends)
