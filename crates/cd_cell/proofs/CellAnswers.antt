@@ -5,9 +5,9 @@ use Rattle.cd_base.specs.Lists.{OneOf, collect}
 use Rattle.cd_base.specs.declared.normal.Normal.{Normal}
 use Rattle.cd_base.proofs.Members.{member_map, map_member, member_collect, collect_member}
 use Rattle.cd_clause.specs.declared.elem.Elem.{Elem}
-use Rattle.cd_clause.specs.Derivations.{Derived}
+use Rattle.cd_clause.specs.Derivations.{Derived, start_key}
 use Rattle.cd_model.specs.Canonical.{IsClosure, RolesInRange}
-use Rattle.cd_model.specs.Exactness.{Exact}
+use Rattle.cd_model.specs.Exactness.{Exact, IsTest, AreExact}
 use Rattle.cd_model.proofs.Exact.{exact}
 use Rattle.cd_context.specs.Facts.{has_fact}
 use Rattle.cd_context.specs.Justified.{ClosedLocally, IsContext}
@@ -19,13 +19,13 @@ use Rattle.cd_actor.specs.Cells.{At, Had}
 use Rattle.cd_actor.proofs.At.{at_get, at_member}
 use Rattle.cd_cell.specs.Cells.{CellState, IsWhole, place_of, state_at, meaning}
 use Rattle.cd_cell.specs.Closed.{Closed}
-use Rattle.cd_cell.specs.ClosedCells.{AreSettled, CellExactness}
+use Rattle.cd_cell.specs.ClosedCells.{AreSettled, IsExactCell, CellExactness}
 use Rattle.cd_cell.proofs.Lookups.{state_of_member, member_of_state, has_from}
 use Rattle.cd_cell.proofs.Saturating.{saturation}
 
 -- a value that no look-up gives
 abbrev nothing : List ℕ → State
-nothing key = record { key = key; clauses = []; live = []; links = []; backs = []; deads = [] }
+nothing key = record { key = key; clauses = []; live = []; links = []; backs = []; sures = []; deads = [] }
 
 abbrev found : Option State → List ℕ → State
 found (Some s) key = s
@@ -120,10 +120,15 @@ module _ (n : Normal) (cells : List CellState) (closed : AreSettled n cells) whe
   derived : (key : List ℕ) → OneOf key keys → (c : List Elem) → OneOf c (live_of (state key)) → Derived n key c
   derived key m c i = subst (λ k. Derived n k c) (own key (known key m)) (live_derived n (state key) (context key (known key m)) c i)
 
-  pub exact_at : (below : ℕ → ℕ → Bool) → IsClosure n below → RolesInRange n → (i : ℕ) (c : CellState) → At cells i c → (a : ℕ) (s : State) → OneOf (plain a ∷ [], s) c.contexts → Exact n a (live_of s)
-  exact_at below closure roles i c at a s m =
-      subst (λ z. Exact n a (live_of z)) (state_is i c at (plain a ∷ []) s m)
-      (exact n below closure roles keys (λ k. live_of (state k)) (saturation n keys state is_closed) derived a (is_known i c at (plain a ∷ []) s m))
+  module _ (below : ℕ → ℕ → Bool) (closure : IsClosure n below) (roles : RolesInRange n) where
+    exactly : AreExact n keys (λ k. live_of (state k))
+    exactly = exact n below closure roles keys (λ k. live_of (state k)) (saturation n keys state is_closed) derived
+
+    pub exact_at : (i : ℕ) (c : CellState) → At cells i c → IsExactCell n c
+    exact_at i c at = record {
+      exact = λ a s m. subst (λ z. Exact n a (live_of z)) (state_is i c at (plain a ∷ []) s m) (exactly.exact a (is_known i c at (plain a ∷ []) s m));
+      test = λ a others s m. subst (λ z. IsTest n a others (live_of z)) (state_is i c at (start_key a others) s m) (exactly.test a others (is_known i c at (start_key a others) s m));
+    }
 
 pub cell_exactness : CellExactness
 cell_exactness n below closure roles cells closed = exact_at n cells closed below closure roles

@@ -5,10 +5,10 @@ use Rattle.cd_base.proofs.Members.{member_left, member_right, member_cases, memb
 use Rattle.cd_base.specs.Lists.{OneOf, HasNoRepeats}
 use Rattle.cd_base.specs.declared.normal.Normal.{Normal}
 use Rattle.cd_context.specs.Contract.{ListsOwed}
-use Rattle.cd_context.specs.Owes.{Owes, owes_link, owes_back, owes_dead}
+use Rattle.cd_context.specs.Owes.{Owes, owes_link, owes_back, owes_sure, owes_dead}
 use Rattle.cd_context.specs.State.{State}
 use Rattle.cd_context.specs.declared.facts.Fact.{Fact}
-use Rattle.cd_context.specs.declared.facts.Fact.TheVariants.{Start, Link, Back, Dead}
+use Rattle.cd_context.specs.declared.facts.Fact.TheVariants.{Start, Link, Back, Sure, Dead}
 use Rattle.cd_context.specs.declared.facts.Note.{Note}
 use Rattle.cd_cell.specs.Telling.{AreOwn, AreOwed}
 use Rattle.cd_cell.proofs.Puts.{keys_of}
@@ -18,11 +18,13 @@ abbrev pub sender : Fact → List ℕ
 sender Start = []
 sender (Link h r) = h
 sender (Back r k a) = k
+sender (Sure r k a) = k
 sender (Dead r k) = k
 
 pub owes_sender : (n : Normal) (s : State) (note : Note) → Owes n s note → sender note.fact ≡ s.key
 owes_sender n s note (owes_link r k c m e q) = ap (λ (w : Note). sender w.fact) q
-owes_sender n s note (owes_back h r c t l m e tm u q) = ap (λ (w : Note). sender w.fact) q
+owes_sender n s note (owes_back h r c t l m e o tm u q) = ap (λ (w : Note). sender w.fact) q
+owes_sender n s note (owes_sure h r c t l m e tm u q) = ap (λ (w : Note). sender w.fact) q
 owes_sender n s note (owes_dead h r l m q) = ap (λ (w : Note). sender w.fact) q
 
 -- ---- elements that stand once

@@ -1,34 +1,86 @@
--- What a context answers is true in every model, where its cell is one of closed cells.
-use Rattle.std.proofs.Common.{ℕ, List}
-use Rattle.cd_base.specs.declared.answer.Answer.{Answer}
-use Rattle.cd_base.specs.declared.answer.Answer.TheVariants.{Unsatisfiable, Of}
+-- What a context tells is true in every model, where its cell is one of closed cells.
+use Rattle.std.proofs.Common.{◌≡◌, ◌↔◌, ◌⊎◌, ◌<◌, ℕ, Bool, true, List, [], ◌∷◌, length, subst, inl, inr, arith}
+use Rattle.std.proofs.lemmas.Bool.{both_ways, cases_lt}
+use Rattle.cd_base.specs.Keys.{is_named}
+use Rattle.cd_base.specs.Lists.{OneOf, SameSet}
 use Rattle.cd_base.specs.declared.normal.Normal.{Normal}
+use Rattle.cd_clause.specs.Derivations.{IsSingle}
+use Rattle.cd_clause.specs.Elements.{Eligible}
 use Rattle.cd_clause.specs.declared.elem.Elem.{Elem}
-use Rattle.cd_model.specs.Exactness.{Exact}
-use Rattle.cd_model.specs.TrueAnswers.{IsTrueAnswer}
-use Rattle.cd_model.proofs.TrueAnswers.{one_true_answer}
+use Rattle.cd_clause.specs.declared.elem.Elem.TheVariants.{Plain}
+use Rattle.cd_context.specs.OpenNames.{IsOpenName}
+use Rattle.cd_context.specs.State.{State, live_of}
+use Rattle.cd_model.specs.Canonical.{chosen}
+use Rattle.cd_model.specs.Exactness.{AllIn, Exact, IsTest}
+use Rattle.cd_model.proofs.Choice.{Made, made, empty_from_none}
 use Rattle.cd_cell.specs.Cells.{CellState}
-use Rattle.cd_cell.specs.Subsumers.{HasContext, IsSubsumersOf, IsSubsumersIn}
-use Rattle.cd_cell.specs.TrueAnswers.{IsExactIn, SameAnswers}
+use Rattle.cd_cell.specs.Subsumers.{HasContext, IsReadingOf, IsReadingIn}
+use Rattle.cd_cell.specs.TrueAnswers.{IsTrueReading, IsTrueReadingIn, IsTrueTest, IsTrueTestIn, Agree, SameReadings}
+use Rattle.cd_cell.specs.declared.reading.Reading.{Reading}
+use Rattle.cd_cell.specs.declared.reading.Reading.TheVariants.{Unsatisfiable, Of}
 use Rattle.cd_cell.proofs.CellAnswers.{cell_exactness}
 
--- the answer of live clauses that are exact is true
-pub true_of_exact : (n : Normal) (a : ℕ) (live : List (List Elem)) (answer : Answer) → IsSubsumersOf n live answer → Exact n a live → IsTrueAnswer n a answer
+-- an atom that is the greatest of a clause without others is alone in it
+alone_in : (n : Normal) (b : ℕ) (c : List Elem) → Eligible n (Plain b) c → length c < 2 → SameSet c (Plain b ∷ [])
+alone_in n b [] e l = absurd e.isin
+alone_in n b (x ∷ []) e l = elim e.isin [
+  | inl q ↦ subst (λ z. SameSet (z ∷ []) (Plain b ∷ [])) q (λ f m. m, λ f m. m)
+  | inr z ↦ absurd z
+]
+alone_in n b (x ∷ y ∷ c) e l = absurd (omega arith)
+
+-- a named atom that is above an atom is read to be so, or to be left open
+read_or_open : (n : Normal) (a : ℕ) (live : List (List Elem)) → Exact n a live → (OneOf [] live → ⊥) → (b : ℕ) → is_named n b ≡ true → AllIn n a b → IsSingle live b ⊎ IsOpenName n live b
+read_or_open n a live x o b named every =
+    let w : Made n (chosen n live) live (Plain b) = made n live (empty_from_none live o) (Plain b) (x.all_chosen o b every) in
+    elim (cases_lt (length w.clause) 2) [
+      | inl l ↦ inl (w.clause, w.isin, alone_in n b w.clause w.eligible l)
+      | inr l ↦ inr (named, (w.clause, w.isin, (omega arith, w.eligible)))
+    ]
+
+-- what live clauses that are exact tell is true
+pub true_of_exact : (n : Normal) (a : ℕ) (live : List (List Elem)) (reading : Reading) → IsReadingOf n live reading → Exact n a live → IsTrueReading n a reading
 true_of_exact n a live Unsatisfiable h e = e.empty_none h
-true_of_exact n a live (Of atoms) h e = (
-  λ none. h.0 (e.none_empty none),
-  h.1,
-  λ b. (λ m. let w = (h.2 b).0 m in (w.0, e.single_all b w.1), λ w. (h.2 b).1 (w.0, e.all_single h.0 b w.0 w.1)),
+true_of_exact n a live (Of above left_open) h e = record {
+  some = λ none. h.0 (e.none_empty none);
+  above_all = λ b m. let w = (h.1 b).0 m in (w.0, e.single_all b w.1);
+  open_named = λ b m. ((h.2 b).0 m).0;
+  every = λ b named every. elim (read_or_open n a live e h.0 b named every) [
+    | inl s ↦ inl ((h.1 b).1 (named, s))
+    | inr o ↦ inr ((h.2 b).1 o)
+  ];
+}
+
+-- what a context of closed cells tells is true
+pub exact_reading : (c : CellState) (a : ℕ) (reading : Reading) → HasContext c.contexts a → IsReadingIn c.normal c.contexts a reading → IsTrueReadingIn c a reading
+exact_reading c a reading here is below closure roles cells closed i at =
+    true_of_exact c.normal a _ reading (is here.0 here.1) ((cell_exactness c.normal below closure roles cells closed i c at).exact a here.0 here.1)
+
+true_test : (n : Normal) (a : ℕ) (others : List ℕ) (live : List (List Elem)) (empty : Bool) → (empty ≡ true) ↔ OneOf [] live → IsTest n a others live → IsTrueTest n a others empty
+true_test n a others live empty is t = record {
+  some = λ h. t.empty_some (is.0 h);
+  one = λ b e h. t.one_all b e (is.0 h);
+  none = λ h b m every. t.open_none (λ z. both_ways empty h (is.1 z)) b m every;
+}
+
+-- what the context of a key tells is true
+pub exact_test : (c : CellState) (key : List ℕ) (empty : Bool) (s : State) → OneOf (key, s) c.contexts → (empty ≡ true) ↔ OneOf [] (live_of s) → IsTrueTestIn c key empty
+exact_test c key empty s m is below closure roles cells closed i at a others e =
+    true_test c.normal a others (live_of s) empty is
+    ((cell_exactness c.normal below closure roles cells closed i c at).test a others s (subst (λ (k : List ℕ). OneOf (k, s) c.contexts) e m))
+
+agreed : (n : Normal) (a : ℕ) (x y : Reading) → IsTrueReading n a x → IsTrueReading n a y → Agree x y
+agreed n a Unsatisfiable Unsatisfiable p q = tt
+agreed n a Unsatisfiable (Of above left_open) p q = q.some p
+agreed n a (Of above left_open) Unsatisfiable p q = p.some q
+agreed n a (Of above left_open) (Of other_above other_open) p q = (
+  λ b m. let w = p.above_all b m in q.every b w.0 w.1,
+  λ b m. let w = q.above_all b m in p.every b w.0 w.1,
 )
 
--- the answer of a context of closed cells is true
-pub exact_answer : (c : CellState) (a : ℕ) (answer : Answer) → HasContext c.contexts a → IsSubsumersIn c.normal c.contexts a answer → IsExactIn c a answer
-exact_answer c a answer here is below closure roles cells closed i at =
-    true_of_exact c.normal a _ answer (is here.0 here.1) (cell_exactness c.normal below closure roles cells closed i c at a here.0 here.1)
-
--- both answers are true
-pub same_answers : SameAnswers
-same_answers n below closure roles cells others closed also i j c d at at_other a here there x y is other =
-    one_true_answer n a x y
-    (true_of_exact n a _ x (is here.0 here.1) (cell_exactness n below closure roles cells closed i c at a here.0 here.1))
-    (true_of_exact n a _ y (other there.0 there.1) (cell_exactness n below closure roles others also j d at_other a there.0 there.1))
+-- both readings are true
+pub same_readings : SameReadings
+same_readings n below closure roles cells others closed also i j c d at at_other a here there x y is other =
+    agreed n a x y
+    (true_of_exact n a _ x (is here.0 here.1) ((cell_exactness n below closure roles cells closed i c at).exact a here.0 here.1))
+    (true_of_exact n a _ y (other there.0 there.1) ((cell_exactness n below closure roles others also j d at_other).exact a there.0 there.1))

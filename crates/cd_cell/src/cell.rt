@@ -1,20 +1,19 @@
 //! Cells.
 ghost use Rattle.std.specs.Prelude.{◌≡◌, ◌<◌, ◌++◌, ◌↔◌, ℕ, [], true, IfOk, OnOk, false, IsTrue};
-ghost use Rattle.cd_base.specs.Keys.{is_named};
 ghost use Rattle.cd_base.specs.Lists.{OneOf, HasNoRepeats};
 ghost use Rattle.cd_actor.specs.Meaning.{Keeps, IsSame, Delivers};
 ghost use Rattle.cd_actor.specs.Sends.{sent, Sends};
 ghost use Rattle.cd_cell.specs.Cells.{meaning, IsWhole, IsSound};
 ghost use Rattle.cd_cell.specs.Lawful.{same_places, same_lawful, owed_lawful};
-ghost use Rattle.cd_cell.specs.Subsumers.{HasContext, IsSubsumersIn};
-ghost use Rattle.cd_cell.specs.TrueAnswers.{IsExactIn};
+ghost use Rattle.cd_cell.specs.Subsumers.{HasContext, HasContextAt, IsReadingIn};
+ghost use Rattle.cd_cell.specs.TrueAnswers.{IsTrueReadingIn, IsTrueTestIn};
 ghost use Rattle.cd_context.specs.declared.facts.Note.{Note};
 
-use crate::answers::answer_of;
 use crate::contexts::Contexts;
+use crate::reading::{Reading, reading_of};
 use crate::sending::send_all;
 use cd_actor::{Actor, Outbox};
-use cd_base::{Answer, Atom, Key, Memory};
+use cd_base::{Atom, Key, Memory};
 use cd_context::Note;
 use cd_index::Index;
 use std::alloc::Global;
@@ -86,21 +85,36 @@ impl<'a> Cell<'a> {
         !self.failed
     }
 
-    /// What the context of a named class says of it: that it can have no member, or the named classes that have each of its members.
+    /// What the context of a named class tells of it: that it can have no member, or named classes that it is below, and those of which that
+    /// is left open.
     ///
-    /// `answer`: that is read off the live clauses of the context. `exact`: where the cell is one of closed cells, it is true in every model
-    /// and complete. One look-up, linear in the live clauses of the context, and `n log n` in the answer.
-    pub fn subsumers(&self, alloc: Global, atom: Atom) -> Result<Answer, Memory>
-        requires named { is_named self.now.normal atom ≡ true }
+    /// `reading`: that is read off the live clauses of the context. `exact`: where the cell is one of closed cells, it is true in every model,
+    /// and a class that isn't told has not all of its members. One look-up, and what `Context::open_names` and `Context::singles` take.
+    pub fn read(&self, alloc: Global, atom: Atom) -> Result<Reading, Memory>
         requires here { HasContext self.now.contexts atom }
-        ensures answer { IfOk result
-            (λ answer. IsSubsumersIn self.now.normal self.now.contexts atom answer) }
-        ensures exact { IfOk result (IsExactIn self.now atom) }
+        ensures reading { IfOk result
+            (λ reading. IsReadingIn self.now.normal self.now.contexts atom reading) }
+        ensures exact { IfOk result (IsTrueReadingIn self.now atom) }
     {
         match self.contexts.get(&Key::single(alloc, atom)) {
-            Some(context) => answer_of(alloc, self.index, context),
+            Some(context) => reading_of(alloc, self.index, context),
             // it has a context, so this arm isn't reached
-            None => Ok(Answer::Unsatisfiable),
+            None => Ok(Reading::Unsatisfiable),
+        }
+    }
+
+    /// Whether the context of the key has the empty clause: nothing can meet the key.
+    ///
+    /// `exact`: where the cell is one of closed cells, and the key is that of a class and negated ones, this decides whether each member of
+    /// the class is in some of the others. One look-up.
+    pub fn has_empty_at(&self, key: &Key) -> bool
+        requires here { HasContextAt self.now.contexts key.now }
+        ensures exact { IsTrueTestIn self.now key.now result }
+    {
+        match self.contexts.get(key) {
+            Some(context) => context.has_empty(),
+            // it has a context, so this arm isn't reached
+            None => false,
         }
     }
 }
