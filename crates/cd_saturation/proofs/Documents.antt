@@ -9,9 +9,8 @@ use Rattle.cd_base.specs.declared.answer.Answer.{Answer}
 use Rattle.cd_base.specs.declared.answer.Answer.TheVariants.{Unsatisfiable, Of}
 use Rattle.cd_base.specs.declared.normal.Normal.{Normal}
 use Rattle.cd_base.proofs.Members.{all_from_member, any_member, any_by_member}
-use Rattle.cd_clause.specs.declared.elem.Elem.{Elem}
-use Rattle.cd_model.specs.Exactness.{Exact, NoneIn, AllIn}
-use Rattle.cd_cell.specs.Subsumers.{IsSubsumersOf}
+use Rattle.cd_actor.specs.Cells.{At}
+use Rattle.cd_model.specs.Exactness.{NoneIn, AllIn}
 use Rattle.cd_meaning.specs.Answer.{Decides}
 use Rattle.cd_meaning.specs.Entailment.{Entails}
 use Rattle.cd_meaning.specs.Membership.{member}
@@ -24,6 +23,7 @@ use Rattle.cd_normal.proofs.FitsAxioms.{extends}
 use Rattle.cd_normal.proofs.RestrictAxioms.{restricts}
 use Rattle.cd_taxonomy.specs.Relation.{is_superclass, relation, HasClassesBelow}
 use Rattle.cd_saturation.specs.Answers.{AreAnswers}
+use Rattle.cd_saturation.specs.Decided.{IsDecided}
 use Rattle.cd_taxonomy.proofs.Decided.{subsumption}
 
 module _ (document : Document) (n : Normal) (m : IsStructuralNormalForm document n) where
@@ -76,26 +76,29 @@ module _ (document : Document) (n : Normal) (m : IsStructuralNormalForm document
       let l : x < e.made.size = subst (λ z. x < z) (sym e.size) lt in
       absurd (none e.made e.model x l (e.classes a x la lt ∙ (sym (member-Name i x a) ∙ ma)))
 
-  -- an exact context's answer says what the document entails of its class
-  pub answer_decides : (a : ℕ) → a < classes → (live : List (List Elem)) (answer : Answer) → Exact n a live → IsSubsumersOf n live answer
-      → (b : ℕ) → b < classes → IsTrue (is_superclass answer b) ↔ Entails document.axioms a b
-  answer_decides a la live Unsatisfiable x is b lb = (λ h. none_entailed a b la (x.empty_none is), λ h. refl)
-  answer_decides a la live (Of atoms) x is b lb = (
-    λ h. all_entailed a b la lb (x.single_all b ((is.2 b).0 (member_from atoms b h)).1),
-    λ h. from_member atoms b ((is.2 b).1 (class_is_named b lb, x.all_single is.0 b (class_is_named b lb) (entailed_all a b la lb h))),
-  )
-    where
-      member_from : (l : List ℕ) (b : ℕ) → list_any (λ (atom : ℕ). atom == b) l ≡ true → OneOf b l
-      member_from l b h =
-          let r = any_member (λ (atom : ℕ). atom == b) l h in
-          subst (λ z. OneOf z l) (eqb-true r.0 b r.2) r.1
+  module _ (above : List Answer) (d : IsDecided n classes above []) where
+    member_from : (l : List ℕ) (b : ℕ) → list_any (λ (atom : ℕ). atom == b) l ≡ true → OneOf b l
+    member_from l b h =
+        let r = any_member (λ (atom : ℕ). atom == b) l h in
+        subst (λ z. OneOf z l) (eqb-true r.0 b r.2) r.1
 
-      from_member : (l : List ℕ) (b : ℕ) → OneOf b l → list_any (λ (atom : ℕ). atom == b) l ≡ true
-      from_member l b h = any_by_member (λ (atom : ℕ). atom == b) l b h (eq-eqb b b refl)
+    from_member : (l : List ℕ) (b : ℕ) → OneOf b l → list_any (λ (atom : ℕ). atom == b) l ≡ true
+    from_member l b h = any_by_member (λ (atom : ℕ). atom == b) l b h (eq-eqb b b refl)
 
-  pub answer_within : (live : List (List Elem)) (answer : Answer) → IsSubsumersOf n live answer → HasClassesBelow classes answer
-  answer_within live Unsatisfiable is = tt
-  answer_within live (Of atoms) is = all_from_member (λ (atom : ℕ). atom < classes) atoms (λ b h. named_is_class b ((is.2 b).0 h).0)
+    in_answer : (a : ℕ) (atoms : List ℕ) (b : ℕ) → At above a (Of atoms) → is_named n b ≡ true → AllIn n a b → OneOf b atoms
+    in_answer a atoms b at named all = elim (d.every a atoms b at named all) [ inl m ↦ m | inr g ↦ absurd g.1 ]
+
+    -- where nothing is open, the answer of a class says what the document entails of it
+    pub answer_decides : (a : ℕ) → a < classes → (answer : Answer) → At above a answer → (b : ℕ) → b < classes → IsTrue (is_superclass answer b) ↔ Entails document.axioms a b
+    answer_decides a la Unsatisfiable at b lb = (λ h. none_entailed a b la (d.none a at), λ h. refl)
+    answer_decides a la (Of atoms) at b lb = (
+      λ h. all_entailed a b la lb (d.only a atoms b at (member_from atoms b h)).1,
+      λ h. from_member atoms b (in_answer a atoms b at (class_is_named b lb) (entailed_all a b la lb h)),
+    )
+
+    pub answer_within : (a : ℕ) (answer : Answer) → At above a answer → HasClassesBelow classes answer
+    answer_within a Unsatisfiable at = tt
+    answer_within a (Of atoms) at = all_from_member (λ (atom : ℕ). atom < classes) atoms (λ b h. named_is_class b (d.only a atoms b at h).0)
 
 pub are_answers : (document : Document) (above : List Answer) → Decides document (relation above) → length above ≡ length document.classes
     → All (HasClassesBelow (length document.classes)) above → AreAnswers document above

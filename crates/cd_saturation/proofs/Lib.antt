@@ -1,4 +1,9 @@
 pub mod Answered
 pub mod Closures
+pub mod Deciding
 pub mod Documents
+pub mod GroupKeys
+pub mod Reading
 pub mod Runs
+pub mod Walks
+pub mod Weights

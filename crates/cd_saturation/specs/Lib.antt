@@ -1,3 +1,5 @@
 pub mod Answers
+pub mod Decided
+pub mod Groups
 pub mod Limit
 pub mod Saturation

@@ -1,19 +1,26 @@
-use Rattle.std.proofs.Common.{subst, sym}
-use Rattle.std.specs.Prelude.{IfErr}
-use Rattle.std.proofs.lemmas.Result.{err_from_is_err_and}
-use Rattle.cd_saturation.specs.Limit.{HasHalted}
-use Rattle.cd_saturation.proofs.Runs.{closed_after, begun_after, stopped}
+use Rattle.std.proofs.Common.{◌<◌, inr, rules}
+use Rattle.std.proofs.lemmas.Result.{IfOk-weaker, IfErr-weaker}
+use Rattle.cd_saturation.proofs.Runs.{classes_lawful, new_cells, of_family, run_after}
 use Rattle.cd_saturation.proofs.saturation.saturate.Goals as goal
 
-pub returns-clause-closed : goal.returns-clause-closed
-returns-clause-closed c = closed_after c.args.index.now.normal c.args.limits.now.cells _ c.in_ok-core.ensures.new _ _ c.in_ok-cells.ensures.ok.settled
+pub run_on-requires-clause-cells : goal.run_on-requires-clause-cells
+run_on-requires-clause-cells c = new_cells c.args.index.now.normal c.args.limits.now.cells c.in_ok-cells.cells.items c.in_ok-cells.ensures
 
-pub returns-clause-begun : goal.returns-clause-begun
-returns-clause-begun c a lt = begun_after c.args.limits.now.cells _ _ _ c.in_ok-cells.ensures.ok.settled a (c.in_ok-core.ensures.starts a lt)
+pub run_on-requires-clause-start : goal.run_on-requires-clause-start
+run_on-requires-clause-start c =
+    let some : 0 < c.args.limits.now.cells = search rules in
+    classes_lawful c.args.index.now.normal c.args.limits.now.cells c.in_ok-cells.cells.items (of_family c.args.index.now.normal c.args.limits.now.cells c.in_ok-cells.cells.items c.in_ok-cells.ensures) c.in_ok-cells.ensures.each some
+    c.args.classes c.in_ok-start.start.items c.in_ok-start.ensures c.requires.named
 
-pub returns-in_err-cells-clause-halted : goal.returns-in_err-cells-clause-halted
-returns-in_err-cells-clause-halted c =
-    let p = err_from_is_err_and c.from_residual-in_err-cells.result c.from_residual-in_err-cells.ensures.1 in
-    let halted = HasHalted c.args.index.now.normal c.args.limits.now.max_contexts c.args.limits.now.max_facts in
-    subst (λ r. IfErr r halted) (sym p.1) (subst halted (sym p.2)
-    (stopped c.args.index.now.normal c.args.limits.now.cells _ c.in_ok-core.ensures.new _ _ _ c.in_err-cells.ensures.stop))
+pub returns-clause-run : goal.returns-clause-run
+returns-clause-run c =
+    IfOk-weaker c.run_on.result _ _
+    (λ cells e. run_after c.args.index.now.normal c.args.limits.now.cells c.in_ok-cells.cells.items (of_family c.args.index.now.normal c.args.limits.now.cells c.in_ok-cells.cells.items c.in_ok-cells.ensures)
+    c.args.classes c.in_ok-start.start.items cells.items e (λ a lt. inr (c.in_ok-start.ensures.every a lt)))
+    c.run_on.ensures.settled
+
+pub returns-clause-halted : goal.returns-clause-halted
+returns-clause-halted c =
+    IfErr-weaker c.run_on.result _ _
+    (λ halt h. h c.args.limits.now.cells c.args.index.now.normal (of_family c.args.index.now.normal c.args.limits.now.cells c.in_ok-cells.cells.items c.in_ok-cells.ensures))
+    c.run_on.ensures.halted
