@@ -1,5 +1,5 @@
 -- What the lexer and the parser of a reader mean together.
-use Rattle.std.specs.Prelude.{◌≡◌, ℕ, List, length, Option, Some, None}
+use Rattle.std.specs.Prelude.{◌≡◌, ◌≤◌, ℕ, List, [], length, Option, Some, None, IfSome}
 use Rattle.std.specs.List.{fold}
 use Rattle.std.specs.Io.KnownBytes.{Consumes}
 use Rattle.cd_lex.specs.declared.token.LexFault.{LexFault}
@@ -41,3 +41,9 @@ TakesText parser fed =
 abbrev pub IsFedFrom : Option (List ℕ) → Option (List ℕ) → Reader → ℕ → Type 0
 IsFedFrom left later reader n =
     (fed : List ℕ) × IsReading reader fed × Consumes left later fed × (length fed ≡ n)
+
+-- the reader was fed all that a source had left, which are so many bytes at most
+abbrev pub IsFedWhole : Option (List ℕ) → Option (List ℕ) → Reader → ℕ → Type 0
+IsFedWhole left later reader most =
+    (fed : List ℕ) × IsReading reader fed × (length fed ≤ most)
+    × IfSome left (λ input. (fed ≡ input) × (later ≡ Some []))

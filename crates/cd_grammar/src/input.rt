@@ -1,14 +1,14 @@
 //! The document that a source gives.
-ghost use Rattle.std.specs.Prelude.{◌≡◌, ◌≤◌, ◌<◌, ◌+◌, ◌^◌, ◌⊎◌, true, false, length, List, ℕ, Some, Err, [], IfSome, IfOk, OnOk, IsErrOf, All, vec_len};
+ghost use Rattle.std.specs.Prelude.{◌≡◌, ◌≤◌, ◌<◌, ◌+◌, ◌^◌, ◌⊎◌, true, false, length, List, ℕ, Some, Ok, Err, [], IfSome, IfOk, OnOk, IsErrOf, All, vec_len};
 ghost use Rattle.std.specs.Io.KnownBytes.{IsAtEnd};
 ghost use Rattle.cd_base.specs.Iri.{IsIri};
 ghost use Rattle.cd_io.specs.Causes.{Rose};
 ghost use Rattle.cd_io.specs.Streams.{LosesAtMost};
 ghost use Rattle.cd_syntax.specs.Grammar.{IsRead, IsOnly};
 ghost use Rattle.cd_syntax.specs.Bounds.{IsSmall};
-ghost use Rattle.cd_grammar.specs.Reading.{IsReading};
+ghost use Rattle.cd_grammar.specs.Reading.{IsReading, IsFinished};
 ghost use Rattle.cd_syntax.specs.Refusal.{IsRefused};
-ghost use Rattle.cd_grammar.specs.Taking.{IsFedFrom};
+ghost use Rattle.cd_grammar.specs.Taking.{IsFedFrom, IsFedWhole};
 ghost use Rattle.cd_syntax.specs.declared.refusal.Refusal.{Refusal};
 
 use crate::reader::Reader;
@@ -79,16 +79,58 @@ pub fn read_document<S: Source>(
         → Rose (S.faults source.old) (S.faults source.new) }
     ensures unended { IsErrOf result ReadRefusal.ReadFault → S.ended source.new ≡ false }
 {
-    let most = limits.max_bytes + 1;
     let mut reader = Reader::new(alloc)?;
-    let count = feed_all(alloc, source, &mut reader, most)?;
+    if let Err(refusal) = feed_input(alloc, source, &mut reader, limits.max_bytes) {
+        drop(reader);
+        return Err(refusal);
+    }
+    finish(alloc, reader)
+}
+
+/// The document that a reader was fed, or its refusal.
+fn finish(alloc: Global, reader: Reader) -> Result<Document, ReadRefusal>
+    requires { (fed : List ℕ) × IsReading reader fed × (length fed < 2 ^ 31) }
+    ensures read { (fed : List ℕ) → IsReading reader fed
+        → IfOk result (λ document. IsFinished fed (Ok document)) }
+    ensures refused { (fed : List ℕ) → IsReading reader fed
+        → (refusal : Refusal) → result ≡ Err (ReadRefusal.Refused refusal)
+        → IsFinished fed (Err refusal) }
+    ensures judged { IsErrOf result ReadRefusal.ReadFault → ⊥ }
+{
+    match reader.finish(alloc) {
+        Ok(Ok(document)) => Ok(document),
+        Ok(Err(refusal)) => Err(ReadRefusal::Refused(refusal)),
+        Err(Memory) => Err(ReadRefusal::Memory),
+    }
+}
+
+/// Feeds a reader all that a source has left, unless that is more than the limit. Linear in these bytes.
+fn feed_input<S: Source>(
+    alloc: Global,
+    source: &mut S,
+    reader: &mut Reader,
+    max_bytes: u64,
+) -> Result<(), ReadRefusal>
+    requires fresh { IsReading reader.old [] }
+    requires few { max_bytes + 1 < 2 ^ 31 }
+    ensures fed { OnOk result
+        (IsFedWhole (S.left source.old) (S.left source.new) reader.new max_bytes) }
+    ensures ended { OnOk result (S.ended source.new ≡ true) }
+    ensures after { OnOk result (S.after source.new ≡ S.after source.old) }
+    ensures taken { LosesAtMost (S.left source.old) (S.left source.new) (max_bytes + 1) }
+    ensures refused { IfSome (S.left source.old)
+        (λ input. (refusal : Refusal) → result ≡ Err (ReadRefusal.Refused refusal)
+        → IsRefused input max_bytes refusal) }
+    ensures read_fault { IsErrOf result ReadRefusal.ReadFault
+        → Rose (S.faults source.old) (S.faults source.new) }
+    ensures unended { IsErrOf result ReadRefusal.ReadFault → S.ended source.new ≡ false }
+{
+    let most = max_bytes + 1;
+    let count = feed_all(alloc, source, reader, most)?;
     if count == most {
         return Err(ReadRefusal::Refused(Refusal::TooLong(most)));
     }
-    match reader.finish(alloc)? {
-        Ok(document) => Ok(document),
-        Err(refusal) => Err(ReadRefusal::Refused(refusal)),
-    }
+    Ok(())
 }
 
 /// Feeds a reader all that a source has left, or its first `most` bytes where it has more. How many they are. Linear in these bytes.

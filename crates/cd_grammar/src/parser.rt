@@ -1,8 +1,9 @@
 //! A parser that takes one item after another, up to the first fault.
-ghost use Rattle.std.specs.Prelude.{◌≡◌, ◌<◌, ◌≤◌, ◌+◌, ◌-◌, ◌^◌, length, IfOk, OnOk};
+ghost use Rattle.std.specs.Prelude.{◌≡◌, ◌<◌, ◌≤◌, ◌+◌, ◌-◌, ◌^◌, Some, length, IfOk, OnOk};
 ghost use Rattle.cd_grammar.specs.Causes.{stand_after};
 ghost use Rattle.cd_syntax.specs.Grammar.{nesting};
 ghost use Rattle.cd_grammar.specs.Machine.{step};
+ghost use Rattle.cd_syntax.specs.Refusal.{refusal_at};
 ghost use Rattle.cd_grammar.specs.Reading.{standing, started, IsTried};
 
 use crate::cause::{find_cause, is_over, is_prefix_iri, wants_role};
@@ -47,9 +48,16 @@ impl Parser {
             return Ok(());
         }
         if let Some(cause) = self.try_item(alloc, item)? {
-            self.stopped = Some(cause.at(place));
+            self.stop(cause, place);
         }
         Ok(())
+    }
+
+    /// Takes no more items: the first fault is this one, at this place.
+    fn stop(&mut self, cause: Cause, place: u64)
+        ensures { self.new ≡ record self.old { stopped = Some (refusal_at cause place) } }
+    {
+        self.stopped = Some(cause.at(place));
     }
 
     /// Takes the item, or says why it can't stand here.

@@ -1,9 +1,9 @@
 //! What may stand at each place of a document, one item after another.
-ghost use Rattle.std.specs.Prelude.{◌≡◌, ◌∷◌, [], ◌<◌, ◌-◌, ◌^◌, true, length, is_some, IfOk};
+ghost use Rattle.std.specs.Prelude.{◌≡◌, ◌∷◌, [], List, ◌<◌, ◌-◌, ◌^◌, true, length, is_some, IfOk};
 ghost use Rattle.std.specs.Str.{bytes_eq};
 ghost use Rattle.cd_syntax.specs.Grammar.{nesting};
 ghost use Rattle.cd_syntax.specs.Named.{iri_of, is_subject};
-ghost use Rattle.cd_grammar.specs.Machine.{IsTaken, is_mark, is_plain, noted, notes_taken, axioms_taken, ontology_iri_taken, given, closed, deeper, head_taken, operand_taken, inside_taken, wants_head_next, wants_part_next, advance};
+ghost use Rattle.cd_grammar.specs.Machine.{IsTaken, is_mark, is_plain, noted, notes_taken, axioms_taken, ontology_iri_taken, given, closed, deeper, head_taken, operand_taken, inside_taken, bare, wants_head_next, wants_part_next, advance};
 ghost use Rattle.cd_syntax.specs.Operands.{made_of};
 ghost use Rattle.cd_syntax.specs.declared.item.Item.{Item};
 ghost use Rattle.cd_grammar.specs.declared.symbol.Symbol.{Symbol};
@@ -15,8 +15,8 @@ use cd_base::{Memory, Seq};
 use cd_meaning::Expr;
 use cd_names::DeclareFault;
 use cd_syntax::{
-    ExprForm, Form, Item, Keyword, Known, Made, class_of, has_class_head, is_iri, is_subject, make,
-    role_of, wants_head, wants_part,
+    AxiomForm, ExprForm, Form, Item, Keyword, Known, Made, class_of, has_class_head, is_iri,
+    is_subject, make, role_of, wants_head, wants_part,
 };
 use std::alloc::Global;
 
@@ -34,6 +34,15 @@ fn noted(known: &Known, stack: &mut Stack, nesting: u64) -> Result<bool, Memory>
     stack.push(Symbol::AnnotationIn(nesting - 1))?;
     stack.push(Symbol::Opening)?;
     Ok(true)
+}
+
+/// Takes the word of an annotation behind which this is wanted.
+fn annotated(known: &Known, stack: &mut Stack, next: Symbol) -> Result<bool, Memory>
+    ensures { IfOk result (λ ok.
+        IsTaken (noted nesting known.now (next ∷ stack.old)) known.now known.now stack.new ok) }
+{
+    stack.push(next)?;
+    noted(known, stack, NESTING)
 }
 
 /// Takes what begins an axiom, or ends the ontology.
@@ -65,8 +74,7 @@ fn notes(known: &Known, stack: &mut Stack, item: &Item) -> Result<bool, Memory>
         ok) }
 {
     if let Item::Word(Keyword::Annotation) = item {
-        stack.push(Symbol::Annotations)?;
-        return noted(known, stack, NESTING);
+        return annotated(known, stack, Symbol::Annotations);
     }
     axioms(known, stack, item)
 }
@@ -114,10 +122,9 @@ fn binding(alloc: Global, known: &Known, stack: &mut Stack, item: &Item) -> Resu
     if !local.items().is_empty() {
         return Ok(false);
     }
-    let prefix = Seq::of(prefix.items().to_vec(alloc)?);
     stack.push(Symbol::Document)?;
     stack.push(Symbol::Closing)?;
-    stack.push(Symbol::PrefixIri(prefix))?;
+    stack.push(Symbol::PrefixIri(Seq::of(prefix.items().to_vec(alloc)?)))?;
     stack.push(Symbol::Equals)?;
     Ok(true)
 }
@@ -152,8 +159,7 @@ fn declaration_in(known: &Known, stack: &mut Stack, item: &Item) -> Result<bool,
 {
     let inside = match item {
         Item::Word(Keyword::Annotation) => {
-            stack.push(Symbol::DeclarationIn)?;
-            return noted(known, stack, NESTING);
+            return annotated(known, stack, Symbol::DeclarationIn);
         }
         Item::Word(Keyword::Class) => Symbol::Class,
         Item::Word(Keyword::Entity) => Symbol::Iri,
@@ -173,8 +179,7 @@ fn assertion_in(known: &Known, stack: &mut Stack, item: &Item) -> Result<bool, M
         known.now stack.new ok) }
 {
     if let Item::Word(Keyword::Annotation) = item {
-        stack.push(Symbol::AssertionIn)?;
-        return noted(known, stack, NESTING);
+        return annotated(known, stack, Symbol::AssertionIn);
     }
     stack.push(Symbol::Value)?;
     stack.push(Symbol::Subject)?;
@@ -188,8 +193,7 @@ fn annotation_axiom_in(known: &Known, stack: &mut Stack, item: &Item) -> Result<
         known.now stack.new ok) }
 {
     if let Item::Word(Keyword::Annotation) = item {
-        stack.push(Symbol::AnnotationAxiomIn)?;
-        return noted(known, stack, NESTING);
+        return annotated(known, stack, Symbol::AnnotationAxiomIn);
     }
     stack.push(Symbol::Closing)?;
     stack.push(Symbol::Iri)?;
@@ -251,9 +255,13 @@ fn give(known: &Known, stack: &mut Stack, expression: Expr) -> Result<bool, Memo
         IsTaken (given known.now expression stack.old) known.now known.now stack.new ok) }
 {
     let Some(Symbol::Inside(mut frame)) = stack.pop() else {
+        drop(expression);
         return Ok(false);
     };
-    frame.parts.push(expression)?;
+    if let Err(memory) = frame.parts.push(expression) {
+        drop(frame);
+        return Err(memory);
+    }
     stack.push(Symbol::Inside(frame))?;
     Ok(true)
 }
@@ -292,28 +300,28 @@ fn deepen(
         frame.parts.items().len(),
     ) || frame.nesting == 0
     {
+        drop(frame);
         return Ok(false);
     }
-    let inner = Frame::bare(alloc, Form::Expr(form), frame.nesting - 1);
+    let nesting = frame.nesting - 1;
     stack.push(Symbol::Inside(frame))?;
-    stack.push(Symbol::Inside(inner))?;
+    stack.push(Symbol::Inside(Frame::bare(alloc, Form::Expr(form), nesting)))?;
     stack.push(Symbol::Opening)?;
     Ok(true)
 }
 
-/// Takes a role, or the class in its place.
-fn head(
+/// Adds a role, or the class in its place, to operands.
+fn add_head(
     alloc: Global,
     known: &mut Known,
-    stack: &mut Stack,
-    mut frame: Frame,
+    frame: &mut Frame,
     item: &Item,
 ) -> Result<bool, Memory>
     requires classes { length known.old.classes < 2 ^ 32 - 1 }
     requires roles { length known.old.roles < 2 ^ 32 - 1 }
-    ensures { IfOk result (λ ok. wants_head_next frame ≡ true
-        → IsTaken (operand_taken known.old frame stack.old (iri_of known.old item.now)) known.old
-        known.new stack.new ok) }
+    ensures { (stack : List Symbol) → IfOk result (λ ok. wants_head_next frame.old ≡ true
+        → IsTaken (operand_taken known.old frame.old stack (iri_of known.old item.now)) known.old
+        known.new (Symbol.Inside frame.new ∷ stack) ok) }
 {
     let found = if has_class_head(frame.form) {
         class_of(alloc, known, item)?
@@ -324,7 +332,34 @@ fn head(
         return Ok(false);
     };
     frame.heads.push(number)?;
-    stack.push(Symbol::Inside(frame))?;
+    Ok(true)
+}
+
+/// Adds a role or a class to operands.
+fn add_operand(
+    alloc: Global,
+    known: &mut Known,
+    frame: &mut Frame,
+    item: &Item,
+) -> Result<bool, Memory>
+    requires classes { length known.old.classes < 2 ^ 32 - 1 }
+    requires roles { length known.old.roles < 2 ^ 32 - 1 }
+    ensures { (stack : List Symbol) → IfOk result (λ ok.
+        IsTaken (operand_taken known.old frame.old stack (iri_of known.old item.now)) known.old
+        known.new (Symbol.Inside frame.new ∷ stack) ok) }
+{
+    let heads = frame.heads.items().len();
+    let parts = frame.parts.items().len();
+    if wants_head(frame.form, heads, parts) {
+        return add_head(alloc, known, frame, item);
+    }
+    if !wants_part(frame.form, heads, parts) {
+        return Ok(false);
+    }
+    let Some(number) = class_of(alloc, known, item)? else {
+        return Ok(false);
+    };
+    frame.parts.push(Expr::Name(number))?;
     Ok(true)
 }
 
@@ -342,20 +377,16 @@ fn operand(
         IsTaken (operand_taken known.old frame stack.old (iri_of known.old item.now)) known.old
         known.new stack.new ok) }
 {
-    let heads = frame.heads.items().len();
-    let parts = frame.parts.items().len();
-    if wants_head(frame.form, heads, parts) {
-        return head(alloc, known, stack, frame, item);
+    match add_operand(alloc, known, &mut frame, item) {
+        Ok(true) => {
+            stack.push(Symbol::Inside(frame))?;
+            Ok(true)
+        }
+        other => {
+            drop(frame);
+            other
+        }
     }
-    if !wants_part(frame.form, heads, parts) {
-        return Ok(false);
-    }
-    let Some(number) = class_of(alloc, known, item)? else {
-        return Ok(false);
-    };
-    frame.parts.push(Expr::Name(number))?;
-    stack.push(Symbol::Inside(frame))?;
-    Ok(true)
 }
 
 /// Takes an item among operands.
@@ -384,11 +415,11 @@ fn advance_plain(
     alloc: Global,
     known: &Known,
     stack: &mut Stack,
-    symbol: Symbol,
+    symbol: &Symbol,
     item: &Item,
 ) -> Result<bool, Memory>
-    ensures { IfOk result (λ ok. is_plain symbol ≡ true
-        → IsTaken (advance nesting known.now symbol item.now stack.old) known.now known.now
+    ensures { IfOk result (λ ok. is_plain symbol.now ≡ true
+        → IsTaken (advance nesting known.now symbol.now item.now stack.old) known.now known.now
         stack.new ok) }
 {
     match symbol {
@@ -403,10 +434,10 @@ fn advance_plain(
         Symbol::DeclarationIn => declaration_in(known, stack, item),
         Symbol::AssertionIn => assertion_in(known, stack, item),
         Symbol::AnnotationAxiomIn => annotation_axiom_in(known, stack, item),
-        Symbol::AnnotationIn(inner) => note_in(known, stack, item, inner),
+        Symbol::AnnotationIn(inner) => note_in(known, stack, item, *inner),
         Symbol::Value => value(known, stack, item),
         Symbol::QuotedEnd => quoted_end(known, stack, item),
-        _ => Ok(is_mark(&symbol, item)),
+        _ => Ok(is_mark(symbol, item)),
     }
 }
 
@@ -421,6 +452,33 @@ fn is_mark(symbol: &Symbol, item: &Item) -> bool
         | (Symbol::End, Item::End) => true,
         _ => false,
     }
+}
+
+/// The operands of an axiom of this form, of which none came yet.
+fn axiom_frame(alloc: Global, form: AxiomForm) -> Frame
+    ensures { result ≡ bare (Form.Axiom form) nesting }
+{
+    Frame::bare(alloc, Form::Axiom(form), NESTING)
+}
+
+/// Takes an annotation of an axiom, or the first of its operands.
+fn axiom_in(
+    alloc: Global,
+    known: &mut Known,
+    stack: &mut Stack,
+    form: AxiomForm,
+    item: &Item,
+) -> Result<bool, Memory>
+    requires classes { length known.old.classes < 2 ^ 32 - 1 }
+    requires roles { length known.old.roles < 2 ^ 32 - 1 }
+    ensures { IfOk result (λ ok.
+        IsTaken (advance nesting known.old (Symbol.AxiomIn form) item.now stack.old) known.old
+        known.new stack.new ok) }
+{
+    if let Item::Word(Keyword::Annotation) = item {
+        return annotated(known, stack, Symbol::AxiomIn(form));
+    }
+    inside(alloc, known, stack, axiom_frame(alloc, form), item)
 }
 
 /// Takes an item at the place of a symbol. Whether it can stand there.
@@ -441,21 +499,17 @@ pub(crate) fn advance(
 {
     match symbol {
         Symbol::Class => Ok(class_of(alloc, known, item)?.is_some()),
-        Symbol::PrefixIri(prefix) => prefix_iri(alloc, known, stack, &prefix, item),
-        Symbol::AxiomIn(form) => {
-            if let Item::Word(Keyword::Annotation) = item {
-                stack.push(Symbol::AxiomIn(form))?;
-                return noted(known, stack, NESTING);
-            }
-            inside(
-                alloc,
-                known,
-                stack,
-                Frame::bare(alloc, Form::Axiom(form), NESTING),
-                item,
-            )
+        Symbol::PrefixIri(prefix) => {
+            let taken = prefix_iri(alloc, known, stack, &prefix, item);
+            drop(prefix);
+            taken
         }
+        Symbol::AxiomIn(form) => axiom_in(alloc, known, stack, form, item),
         Symbol::Inside(frame) => inside(alloc, known, stack, frame, item),
-        other => advance_plain(alloc, known, stack, other, item),
+        other => {
+            let taken = advance_plain(alloc, known, stack, &other, item);
+            drop(other);
+            taken
+        }
     }
 }

@@ -52,10 +52,20 @@ impl Reader {
         requires { (fed : List ℕ) × IsReading self fed × (length fed < 2 ^ 31) }
         ensures { (fed : List ℕ) → IsReading self fed → IfOk result (IsFinished fed) }
     {
-        let Reader { lexer, mut parser } = self;
-        take_last(alloc, lexer, &mut parser)?;
-        let Parser { known, stopped, .. } = parser;
+        let Reader {
+            mut lexer,
+            mut parser,
+        } = self;
+        let ended = take_last(alloc, &mut lexer, &mut parser);
+        drop(lexer);
+        let Parser { known, stack, .. } = parser;
+        drop(stack);
+        let Ok(stopped) = ended else {
+            drop(known);
+            return Err(Memory);
+        };
         if let Some(refusal) = stopped {
+            drop(known);
             return Ok(Err(refusal));
         }
         let document = document_of(alloc, known)?;
@@ -96,18 +106,26 @@ fn close_lexer(lexer: &mut Lexer) -> Result<(Item, u64), Memory>
     }
 }
 
-/// The text has ended: takes the tokens that are left, and what ends its items. Linear in them.
-fn take_last(alloc: Global, mut lexer: Lexer, parser: &mut Parser) -> Result<(), Memory>
-    requires open { lexer.closed ≡ false }
-    requires few { (fed : List ℕ) × (taken : List Token) × Takes lexer parser.old fed taken
+/// The text has ended: takes the tokens that are left, and what ends its items. Its first fault. Linear in them.
+fn take_last(
+    alloc: Global,
+    lexer: &mut Lexer,
+    parser: &mut Parser,
+) -> Result<Option<Refusal>, Memory>
+    requires open { lexer.old.closed ≡ false }
+    requires few { (fed : List ℕ) × (taken : List Token) × Takes lexer.old parser.old fed taken
         × (length fed < 2 ^ 31) }
-    ensures { (fed : List ℕ) (taken : List Token) → Takes lexer parser.old fed taken
+    ensures text { (fed : List ℕ) (taken : List Token) → Takes lexer.old parser.old fed taken
         → OnOk result (TakesText parser.new fed) }
+    ensures stopped { IfOk result (λ stopped. stopped ≡ parser.new.stopped) }
 {
-    let (last, place) = close_lexer(&mut lexer)?;
-    take_tokens(alloc, &mut lexer, parser)?;
+    let (last, place) = close_lexer(lexer)?;
+    if let Err(memory) = take_tokens(alloc, lexer, parser) {
+        drop(last);
+        return Err(memory);
+    }
     take_item(alloc, parser, last, place)?;
-    Ok(())
+    Ok(parser.stopped)
 }
 
 /// Takes the tokens that have ended, one after another. Linear in them.
@@ -143,9 +161,26 @@ fn document_of(alloc: Global, known: Known) -> Result<Document, Memory>
     requires { IsSound known }
     ensures { IfOk result (λ document. IsOf document known) }
 {
+    let Known {
+        prefixes,
+        classes,
+        roles,
+        axioms,
+    } = known;
+    drop(prefixes);
+    let Ok(classes) = classes.into_iris(alloc) else {
+        drop(roles);
+        drop(axioms);
+        return Err(Memory);
+    };
+    let Ok(roles) = roles.into_iris(alloc) else {
+        drop(classes);
+        drop(axioms);
+        return Err(Memory);
+    };
     Ok(Document {
-        axioms: known.axioms,
-        classes: Seq::of(known.classes.into_iris(alloc)?),
-        roles: Seq::of(known.roles.into_iris(alloc)?),
+        axioms,
+        classes: Seq::of(classes),
+        roles: Seq::of(roles),
     })
 }

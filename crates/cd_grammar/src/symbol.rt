@@ -9,7 +9,7 @@ use std::alloc::Global;
 use std::marker::Model;
 
 /// What a parser wants at a place of a document.
-#[derive(Debug, Drop)]
+#[derive(Drop)]
 pub enum Symbol {
     Opening,
     Closing,
@@ -52,7 +52,7 @@ pub enum Symbol {
 }
 
 /// The operands of an axiom or of an expression that came so far.
-#[derive(Debug, Drop)]
+#[derive(Drop)]
 pub struct Frame {
     pub form: Form,
     /// At most so many constructors stand inside each other in each operand.
@@ -77,7 +77,7 @@ impl Frame {
 }
 
 /// What is wanted, the next first.
-#[derive(Debug, Drop)]
+#[derive(Drop)]
 pub struct Stack {
     symbols: Vec<Symbol>,
 }

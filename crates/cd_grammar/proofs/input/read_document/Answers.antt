@@ -1,67 +1,74 @@
-use Rattle.std.proofs.Common.{◌≤◌, length, ap, subst, refl, arith}
+use Rattle.std.proofs.Common.{length, ap, arith}
 use Rattle.std.proofs.lemmas.Option.{IfSome_then}
-use Rattle.std.proofs.lemmas.Result.{err_from_is_err_and}
-use Rattle.std.specs.Prelude.{Result, Ok, Err}
+use Rattle.std.proofs.lemmas.Result.{IfOk-weaker, IfOk-from_err, err_from_is_err_and}
+use Rattle.cd_io.proofs.Losing.{loses_none}
 use Rattle.cd_meaning.specs.declared.document.Document.{Document}
-use Rattle.cd_syntax.specs.declared.refusal.Refusal.{Refusal}
-use Rattle.cd_grammar.specs.Reading.{IsFinished}
-use Rattle.cd_grammar.proofs.Inputs.{whole, at_least, of_any, same_error, too_long, refused_whole, read_whole, unless}
+use Rattle.cd_grammar.proofs.Inputs.{of_any, same_error, other_error, refused_whole, read_whole, small_within, few_bytes, memory_is_no_refusal, memory_is_no_fault}
 use Rattle.cd_grammar.proofs.input.read_document.Goals as goal
 
-pub returns-in_err-count-clause-refused : goal.returns-in_err-count-clause-refused
-returns-in_err-count-clause-refused g c =
-    let p = err_from_is_err_and c.from_residual-in_err-count.result c.from_residual-in_err-count.ensures.1 in
-    of_any (g.S.Source.left c.args.source.now)
-    (λ input refusal h. absurd (c.in_err-count.ensures.unjudged refusal (same_error c.from_residual-in_err-count.result c.in_err-count.field-0.0 p.0 _ p.1 p.2 h)))
+pub returns-in_err-reader : goal.returns-in_err-reader
+returns-in_err-reader g c =
+    let left = g.S.Source.left c.args.source.now in
+    let r = c.from_residual.result in
+    let none = c.from_residual.ensures.0 in
+    let p = err_from_is_err_and r c.from_residual.ensures.1 in
+    record {
+      read = of_any left (λ input. IfOk-from_err r _ none);
+      only = of_any left (λ input. IfOk-from_err r _ none);
+      ended = IfOk-from_err r _ none;
+      after = IfOk-from_err r _ none;
+      taken = loses_none left _;
+      within = IfOk-from_err r _ none;
+      small = of_any left (λ input. IfOk-from_err r _ none);
+      iris = IfOk-from_err r _ none;
+      refused = of_any left (λ input refusal h. absurd (memory_is_no_refusal {T = Document} refusal (same_error r _ p.0 _ p.1 p.2 h)));
+      read_fault = λ h. absurd (memory_is_no_fault {T = Document} (same_error r _ p.0 _ p.1 p.2 h));
+      unended = λ h. absurd (memory_is_no_fault {T = Document} (same_error r _ p.0 _ p.1 p.2 h));
+    }
 
-pub returns-then-count-most-clause-refused : goal.returns-then-count-most-clause-refused
-returns-then-count-most-clause-refused g c =
-    let f = c.in_ok-count.ensures.fed in
-    IfSome_then (g.S.Source.left c.args.source.now) (at_least (g.S.Source.left c.args.source.now) (g.S.Source.left c.feed_all.new.source) f.0 f.2)
-    (λ input h refusal e. too_long input c.args.limits.now.max_bytes _ refusal (omega (arith, f.3, c.if-count-most.true)) refl e)
+pub returns-in-Err : goal.returns-in-Err
+returns-in-Err g c =
+    let left = g.S.Source.left c.args.source.now in
+    let failed = c.in-Err.ensures in
+    record {
+      read = of_any left (λ input. tt);
+      only = of_any left (λ input. tt);
+      ended = tt;
+      after = tt;
+      taken = failed.taken;
+      within = tt;
+      small = of_any left (λ input. tt);
+      iris = tt;
+      refused = IfSome_then left failed.refused (λ input h refusal e. h refusal (other_error _ _ e));
+      read_fault = λ h. failed.read_fault (other_error _ _ h);
+      unended = λ h. failed.unended (other_error _ _ h);
+    }
 
-pub returns-in-Ok-clause-read : goal.returns-in-Ok-clause-read
-returns-in-Ok-clause-read g c =
-    let f = c.in_ok-count.ensures.fed in
-    let end = unless c.in_ok-count.ensures.end c.if-count-most.false in
-    let judged : IsFinished f.0 (Ok c.in-Ok.document) = subst (λ (r : Result Document Refusal). IsFinished f.0 r) c.in-Ok.is (c.in_ok-document.ensures f.0 f.1) in
-    IfSome_then (g.S.Source.left c.args.source.now) (whole (g.S.Source.left c.args.source.now) (g.S.Source.left c.feed_all.new.source) f.0 f.2 end.1)
-    (λ input h. (omega (arith, ap length h.0, f.3, c.in_ok-count.ensures.within, c.if-count-most.false), h.1, (read_whole input f.0 c.in-Ok.document h.0 judged).0))
+pub finish-requires : goal.finish-requires
+finish-requires g c =
+    let f = c.in_default.ensures.fed in
+    let limits = c.args.limits.now in
+    (f.0, f.1, omega (arith, f.2, few_bytes limits.workers limits.cells limits.max_bytes limits.max_contexts limits.max_facts limits.in_range))
 
-pub returns-in-Ok-clause-only : goal.returns-in-Ok-clause-only
-returns-in-Ok-clause-only g c =
-    let f = c.in_ok-count.ensures.fed in
-    let end = unless c.in_ok-count.ensures.end c.if-count-most.false in
-    let judged : IsFinished f.0 (Ok c.in-Ok.document) = subst (λ (r : Result Document Refusal). IsFinished f.0 r) c.in-Ok.is (c.in_ok-document.ensures f.0 f.1) in
-    IfSome_then (g.S.Source.left c.args.source.now) (whole (g.S.Source.left c.args.source.now) (g.S.Source.left c.feed_all.new.source) f.0 f.2 end.1)
-    (λ input h. (read_whole input f.0 c.in-Ok.document h.0 judged).1)
-
-pub returns-in-Ok-clause-within : goal.returns-in-Ok-clause-within
-returns-in-Ok-clause-within g c =
-    let f = c.in_ok-count.ensures.fed in
-    let judged : IsFinished f.0 (Ok c.in-Ok.document) = subst (λ (r : Result Document Refusal). IsFinished f.0 r) c.in-Ok.is (c.in_ok-document.ensures f.0 f.1) in
-    let short : length f.0 ≤ c.args.limits.now.max_bytes = omega (arith, f.3, c.in_ok-count.ensures.within, c.if-count-most.false) in
-    (omega (arith, judged.2.0), omega (arith, judged.2.1), omega (arith, judged.2.2))
-
-pub returns-in-Ok-clause-small : goal.returns-in-Ok-clause-small
-returns-in-Ok-clause-small g c =
-    let f = c.in_ok-count.ensures.fed in
-    let end = unless c.in_ok-count.ensures.end c.if-count-most.false in
-    let judged : IsFinished f.0 (Ok c.in-Ok.document) = subst (λ (r : Result Document Refusal). IsFinished f.0 r) c.in-Ok.is (c.in_ok-document.ensures f.0 f.1) in
-    IfSome_then (g.S.Source.left c.args.source.now) (whole (g.S.Source.left c.args.source.now) (g.S.Source.left c.feed_all.new.source) f.0 f.2 end.1)
-    (λ input h. (read_whole input f.0 c.in-Ok.document h.0 judged).2)
-
-pub returns-in-Ok-clause-iris : goal.returns-in-Ok-clause-iris
-returns-in-Ok-clause-iris g c =
-    let f = c.in_ok-count.ensures.fed in
-    let judged : IsFinished f.0 (Ok c.in-Ok.document) = subst (λ (r : Result Document Refusal). IsFinished f.0 r) c.in-Ok.is (c.in_ok-document.ensures f.0 f.1) in
-    judged.3
-
-pub returns-in-Err-clause-refused : goal.returns-in-Err-clause-refused
-returns-in-Err-clause-refused g c =
-    let f = c.in_ok-count.ensures.fed in
-    let end = unless c.in_ok-count.ensures.end c.if-count-most.false in
-    let judged : IsFinished f.0 (Err c.in-Err.refusal) = subst (λ (r : Result Document Refusal). IsFinished f.0 r) c.in-Err.is (c.in_ok-document.ensures f.0 f.1) in
-    let short : length f.0 ≤ c.args.limits.now.max_bytes = omega (arith, f.3, c.in_ok-count.ensures.within, c.if-count-most.false) in
-    IfSome_then (g.S.Source.left c.args.source.now) (whole (g.S.Source.left c.args.source.now) (g.S.Source.left c.feed_all.new.source) f.0 f.2 end.1)
-    (λ input h refusal e. refused_whole input f.0 c.args.limits.now.max_bytes c.in-Err.refusal refusal short h.0 judged e)
+pub returns : goal.returns
+returns g c =
+    let left = g.S.Source.left c.args.source.now in
+    let fed = c.in_default.ensures in
+    let f = fed.fed in
+    let r = c.finish.result in
+    let judged = c.finish.ensures.read f.0 f.1 in
+    record {
+      read =
+          IfSome_then left f.3
+          (λ input h. IfOk-weaker r _ _ (λ document d. (omega (arith, ap length h.0, f.2), h.1, (read_whole input f.0 document h.0 d).0)) judged);
+      only = IfSome_then left f.3 (λ input h. IfOk-weaker r _ _ (λ document d. (read_whole input f.0 document h.0 d).1) judged);
+      ended = IfOk-weaker r _ _ (λ document d. fed.ended) judged;
+      after = IfOk-weaker r _ _ (λ document d. fed.after) judged;
+      taken = fed.taken;
+      within = IfOk-weaker r _ _ (λ document d. small_within document (length f.0) c.args.limits.now.max_bytes f.2 d.2) judged;
+      small = IfSome_then left f.3 (λ input h. IfOk-weaker r _ _ (λ document d. (read_whole input f.0 document h.0 d).2) judged);
+      iris = IfOk-weaker r _ _ (λ document d. d.3) judged;
+      refused = IfSome_then left f.3 (λ input h refusal e. refused_whole input f.0 c.args.limits.now.max_bytes refusal f.2 h.0 (c.finish.ensures.refused f.0 f.1 refusal e));
+      read_fault = λ h. absurd (c.finish.ensures.judged h);
+      unended = λ h. absurd (c.finish.ensures.judged h);
+    }

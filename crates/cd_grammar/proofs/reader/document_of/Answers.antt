@@ -6,8 +6,8 @@ use Rattle.cd_grammar.proofs.reader.document_of.Goals as goal
 
 pub invariant_of-result : goal.invariant_of-result
 invariant_of-result c =
-    let classes : c.of.result ≡ c.args.known.classes = c.of.ensures ∙ c.in_ok-into_iris.ensures.value in
-    let roles : c.of-2.result ≡ c.args.known.roles = c.of-2.ensures ∙ c.in_ok-into_iris-2.ensures.value in
+    let classes : c.of.result ≡ c.args.known.classes = c.of.ensures ∙ c.in-Ok.ensures.value in
+    let roles : c.of-2.result ≡ c.args.known.roles = c.of-2.ensures ∙ c.in-Ok-into_iris.ensures.value in
     let few_classes : length c.of.result < 2 ^ 32 = omega (arith, ap length classes, c.into_iris.ensures.few) in
     let few_roles : length c.of-2.result < 2 ^ 32 = omega (arith, ap length roles, c.into_iris-2.ensures.few) in
     record {
