@@ -1,5 +1,5 @@
 #!/usr/bin/env python3
-"""Writes the examples as a table for the tests of cd_top, which can read no files: crates/cd_top/src/examples.rt.
+"""Writes the examples as a table for the tests of cd_runs, which can read no files: crates/cd_runs/src/examples.rt.
 
     examples/table.py            writes it
     examples/table.py --check    fails where it is not what the examples say
@@ -8,7 +8,7 @@ import sys
 from pathlib import Path
 
 ROOT = Path(__file__).resolve().parent.parent
-TABLE = ROOT / "crates/cd_top/src/examples.rt"
+TABLE = ROOT / "crates/cd_runs/src/examples.rt"
 
 HEAD = """//! The ontologies of `examples/` with the texts of their taxonomies: written by `examples/table.py` from the files there.
 
@@ -43,6 +43,6 @@ def table():
 
 if sys.argv[1:] == ["--check"]:
     if TABLE.read_text() != table():
-        sys.exit("crates/cd_top/src/examples.rt is not what examples/ says: run examples/table.py")
+        sys.exit("crates/cd_runs/src/examples.rt is not what examples/ says: run examples/table.py")
 else:
     TABLE.write_text(table())

@@ -1,154 +1,184 @@
 //! Small clauses. Expected values are written by hand.
+//! What elements are made of stands in tables, and elements are made of it in one place. What has many parts is let go of by `drop`, which
+//! the prover takes as one step.
 use cd_base::{Atom, Key, Normal, Role, Seq};
 use cd_clause::{Clause, Elem, eligible};
 use std::alloc::Global;
 use std::process::Abort;
 
-fn plain(atom: u32) -> Elem {
-    Elem::Plain(Atom(atom))
-}
+/// What an element is made of: of an atom, `(None, atom)`, and of an edge its role and the atom that it leads to, `(Some(role), atom)`.
+type Part = (Option<u32>, u32);
 
-/// The existential of a role to what is in an atom.
-fn exist(alloc: Global, role: u32, atom: u32) -> Elem {
-    Elem::Exist(Role(role), Key::single(alloc, Atom(atom)))
+fn elem(alloc: Global, (role, atom): Part) -> Elem {
+    match role {
+        Some(role) => Elem::Exist(Role(role), Key::single(alloc, Atom(atom))),
+        None => Elem::Plain(Atom(atom)),
+    }
 }
 
 /// The clause of these elements.
-fn clause(rt: &impl Abort, alloc: Global, elems: &[Elem]) -> Clause {
-    Clause::of(alloc, elems).expect(rt, "memory")
+fn clause(rt: &impl Abort, alloc: Global, parts: &[Part]) -> Clause {
+    let mut elems = Vec::new(alloc);
+    for part in parts {
+        elems.push(elem(alloc, *part)).expect(rt, "memory");
+    }
+    let clause = Clause::of(alloc, elems.as_slice()).expect(rt, "memory");
+    drop(elems);
+    clause
 }
 
-/// Whether they are these elements in this order.
-fn are(clause: &Clause, wanted: &[Elem]) -> bool {
+/// Whether the element is made of this.
+fn is_of(elem: &Elem, (role, atom): Part) -> bool {
+    match elem {
+        Elem::Plain(found) => role == None && *found == Atom(atom),
+        Elem::Exist(found, key) => {
+            let lits = key.lits();
+            role == Some(found.0)
+                && lits.len() == 1
+                && lits[0].atom == Atom(atom)
+                && !lits[0].negated
+        }
+    }
+}
+
+/// Whether the clause has these elements in this order.
+fn are(clause: &Clause, wanted: &[Part]) -> bool {
     let elems = clause.elems();
     elems.len() == wanted.len()
         && elems
             .iter()
             .zip(wanted)
-            .all(|(elem, one)| elem.is_same(one))
+            .all(|(elem, part)| is_of(elem, *part))
 }
 
 #[test]
 fn two_clauses_join(rt: HostRuntime) {
-    let three = clause(&rt, rt.alloc(), &[plain(2), plain(3)])
-        .join(&clause(&rt, rt.alloc(), &[plain(4)]))
-        .expect(&rt, "memory");
-    assert!(rt; are(&three, &[plain(2), plain(3), plain(4)]));
+    let left = clause(&rt, rt.alloc(), &[(None, 2), (None, 3)]);
+    let right = clause(&rt, rt.alloc(), &[(None, 4)]);
+    let both = left.join(&right).expect(&rt, "memory");
+    assert!(rt; are(&both, &[(None, 2), (None, 3), (None, 4)]));
+    drop(both);
+    drop(right);
+    drop(left);
 }
 
 #[test]
-fn an_element_goes(rt: HostRuntime) {
-    let three = clause(&rt, rt.alloc(), &[plain(2), plain(3), plain(4)]);
-    assert_eq!(rt; three.elems().len(), 3);
+fn an_element_comes_once_and_goes(rt: HostRuntime) {
+    let two = clause(&rt, rt.alloc(), &[(None, 3), (None, 4)]);
+    let same = two.with(Elem::Plain(Atom(4))).expect(&rt, "memory");
+    assert!(rt; are(&same, &[(None, 3), (None, 4)]));
+    drop(same);
+    let three = two.with(Elem::Plain(Atom(2))).expect(&rt, "memory");
+    assert!(rt; are(&three, &[(None, 2), (None, 3), (None, 4)]));
+    assert!(rt; three.elems().len() == 3);
     let rest = three.without(0).expect(&rt, "memory");
-    assert!(rt; are(&rest, &[plain(3), plain(4)]));
+    assert!(rt; are(&rest, &[(None, 3), (None, 4)]));
+    drop(rest);
+    drop(three);
+    drop(two);
 }
 
-#[test]
-fn an_element_comes_once(rt: HostRuntime) {
-    let two = clause(&rt, rt.alloc(), &[plain(3), plain(4)]);
-    assert!(rt;
-        are(
-            &two.with(plain(2)).expect(&rt, "memory"),
-            &[plain(2), plain(3), plain(4)]
-        )
-    );
-    assert!(rt;
-        are(
-            &two.with(plain(4)).expect(&rt, "memory"),
-            &[plain(3), plain(4)]
-        )
-    );
-}
-
-/// Whether a copy of the element is that element.
-fn is_copied(rt: &impl Abort, elem: &Elem) -> bool {
-    let copy = elem.copy().expect(rt, "memory");
-    copy.is_same(elem)
+/// Whether a copy of the element is that element and not the edge of role 0 to a 4, and is made of the same.
+fn is_copied(rt: &impl Abort, alloc: Global, part: Part) -> bool {
+    let one = elem(alloc, part);
+    let copy = one.copy().expect(rt, "memory");
+    let other = elem(alloc, (Some(0), 4));
+    let holds = copy.is_same(&one) && is_of(&copy, part) && !copy.is_same(&other);
+    drop(other);
+    drop(copy);
+    drop(one);
+    holds
 }
 
 #[test]
 fn a_copy_of_an_element_is_the_same_element(rt: HostRuntime) {
-    assert!(rt; is_copied(&rt, &plain(0)));
-    assert!(rt; is_copied(&rt, &plain(4)));
-    assert!(rt; is_copied(&rt, &exist(rt.alloc(), 1, 4)));
-    let copy = exist(rt.alloc(), 1, 4).copy().expect(&rt, "memory");
-    assert!(rt; !copy.is_same(&exist(rt.alloc(), 0, 4)));
-}
-
-#[test]
-fn a_copy_has_the_same_elements(rt: HostRuntime) {
-    let two = clause(&rt, rt.alloc(), &[plain(3), plain(4)]);
-    let copy = two.copy().expect(&rt, "memory");
-    assert!(rt; are(&copy, two.elems()));
-}
-
-#[test]
-fn elements_stand_in_one_order_and_once(rt: HostRuntime) {
-    let alloc = rt.alloc();
-    let given = [
-        exist(alloc, 1, 4),
-        plain(3),
-        exist(alloc, 0, 5),
-        plain(2),
-        exist(alloc, 0, 4),
-        plain(3),
-        exist(alloc, 1, 4),
-    ];
-    let wanted = [
-        plain(2),
-        plain(3),
-        exist(alloc, 0, 4),
-        exist(alloc, 0, 5),
-        exist(alloc, 1, 4),
-    ];
-    assert!(rt; are(&clause(&rt, rt.alloc(), &given), &wanted));
-}
-
-/// Whether the clause of two atoms is within that of three.
-fn two_are_within(rt: &impl Abort, alloc: Global, two: [u32; 2], three: [u32; 3]) -> bool {
-    let left = clause(rt, alloc, &[plain(two[0]), plain(two[1])]);
-    let right = clause(
-        rt,
-        alloc,
-        &[plain(three[0]), plain(three[1]), plain(three[2])],
-    );
-    left.within(&right)
-}
-
-#[test]
-fn a_clause_is_within_another_exactly_where_it_has_all_its_elements(rt: HostRuntime) {
-    let table = [
-        ([1, 1], [1, 2, 3], true),
-        ([1, 2], [1, 2, 3], true),
-        ([2, 3], [1, 1, 2], false),
-        ([2, 2], [1, 1, 2], true),
-        ([1, 3], [1, 2, 4], false),
-        ([1, 4], [1, 2, 3], false),
-    ];
-    for (two, three, within) in table {
-        assert_eq!(rt;
-            two_are_within(&rt, rt.alloc(), two, three),
-            within,
-            "{two:?} in {three:?}"
-        );
+    for part in [(None, 0), (None, 4), (Some(1), 4)] {
+        assert!(rt; is_copied(&rt, rt.alloc(), part));
     }
 }
 
 #[test]
-fn the_empty_clause_is_within_each(rt: HostRuntime) {
-    let empty = clause(&rt, rt.alloc(), &[]);
-    let atom = clause(&rt, rt.alloc(), &[plain(1)]);
-    assert!(rt; empty.within(&atom));
-    assert!(rt; !atom.within(&empty));
+fn elements_stand_in_one_order_and_once_and_so_in_a_copy(rt: HostRuntime) {
+    let given = [
+        (Some(1), 4),
+        (None, 3),
+        (Some(0), 5),
+        (None, 2),
+        (Some(0), 4),
+        (None, 3),
+        (Some(1), 4),
+    ];
+    let wanted = [
+        (None, 2),
+        (None, 3),
+        (Some(0), 4),
+        (Some(0), 5),
+        (Some(1), 4),
+    ];
+    let made = clause(&rt, rt.alloc(), &given);
+    assert!(rt; are(&made, &wanted));
+    let copy = made.copy().expect(&rt, "memory");
+    assert!(rt; are(&copy, &wanted));
+    drop(copy);
+    drop(made);
+}
+
+/// Whether the clause of these elements covers that of those.
+fn is_covering(rt: &impl Abort, alloc: Global, left: &[Part], right: &[Part]) -> bool {
+    let left = clause(rt, alloc, left);
+    let right = clause(rt, alloc, right);
+    let found = left.covers(&right);
+    drop(right);
+    drop(left);
+    found
 }
 
 #[test]
-fn an_existential_is_within_no_clause_of_atoms(rt: HostRuntime) {
-    let edge = clause(&rt, rt.alloc(), &[exist(rt.alloc(), 0, 1)]);
-    let atom = clause(&rt, rt.alloc(), &[plain(1)]);
-    assert!(rt; !edge.within(&atom));
-    assert!(rt; edge.within(&atom.join(&edge).expect(&rt, "memory")));
+fn a_clause_covers_another_exactly_where_that_has_all_its_elements_or_weaker_ones(rt: HostRuntime) {
+    let table: [(&[Part], &[Part], bool); 10] = [
+        (
+            &[(None, 1), (None, 1)],
+            &[(None, 1), (None, 2), (None, 3)],
+            true,
+        ),
+        (
+            &[(None, 1), (None, 2)],
+            &[(None, 1), (None, 2), (None, 3)],
+            true,
+        ),
+        (
+            &[(None, 2), (None, 3)],
+            &[(None, 1), (None, 1), (None, 2)],
+            false,
+        ),
+        (
+            &[(None, 2), (None, 2)],
+            &[(None, 1), (None, 1), (None, 2)],
+            true,
+        ),
+        (
+            &[(None, 1), (None, 3)],
+            &[(None, 1), (None, 2), (None, 4)],
+            false,
+        ),
+        (
+            &[(None, 1), (None, 4)],
+            &[(None, 1), (None, 2), (None, 3)],
+            false,
+        ),
+        // The empty clause covers each.
+        (&[], &[(None, 1)], true),
+        (&[(None, 1)], &[], false),
+        // An existential covers no clause of atoms.
+        (&[(Some(0), 1)], &[(None, 1)], false),
+        (&[(Some(0), 1)], &[(None, 1), (Some(0), 1)], true),
+    ];
+    for (row, (left, right, covers)) in table.iter().enumerate() {
+        assert!(rt;
+            is_covering(&rt, rt.alloc(), left, right) == *covers,
+            "row {row}"
+        );
+    }
 }
 
 /// Four classes of the document, two atoms beside them, and no axioms.
@@ -166,46 +196,39 @@ fn six_atoms(rt: &impl Abort, alloc: Global) -> Normal {
     }
 }
 
-/// Whether exactly these elements, which stand in the clause's order, are eligible in their clause.
-fn are_eligible(rt: &impl Abort, alloc: Global, elems: &[Elem], wanted: &[bool]) -> bool {
-    let normal = six_atoms(rt, alloc);
-    let clause = clause(rt, alloc, elems);
-    if clause.elems().len() != wanted.len() {
-        return false;
-    }
+/// Whether exactly these elements of the clause, in its order, are eligible there.
+fn has_eligible(normal: &Normal, clause: &Clause, wanted: &[bool]) -> bool {
+    let mut holds = clause.elems().len() == wanted.len();
     for i in 0..clause.elems().len() {
-        if eligible(&clause, i, &normal) != wanted[i] {
-            return false;
-        }
+        holds = holds && wanted.get(i) == Some(&eligible(clause, i, normal));
     }
-    true
+    holds
+}
+
+/// Whether exactly these elements, which stand in the clause's order, are eligible in their clause.
+fn are_eligible(rt: &impl Abort, alloc: Global, parts: &[Part], wanted: &[bool]) -> bool {
+    let normal = six_atoms(rt, alloc);
+    let clause = clause(rt, alloc, parts);
+    let holds = has_eligible(&normal, &clause, wanted);
+    drop(clause);
+    drop(normal);
+    holds
 }
 
 #[test]
-fn named_atoms_are_all_eligible(rt: HostRuntime) {
-    assert!(rt; are_eligible(&rt, rt.alloc(), &[plain(2), plain(3)], &[true, true]));
-}
-
-#[test]
-fn the_greatest_of_the_other_atoms_is_eligible_alone(rt: HostRuntime) {
-    assert!(rt; are_eligible(&rt, rt.alloc(), &[plain(2), plain(4)], &[false, true]));
-    assert!(rt; are_eligible(&rt, rt.alloc(), &[plain(4), plain(5)], &[false, true]));
-}
-
-#[test]
-fn the_greatest_existential_is_eligible_alone(rt: HostRuntime) {
-    let alloc = rt.alloc();
-    let edge = exist(alloc, 0, 1);
-    assert!(rt;
-        are_eligible(
-            &rt,
-            rt.alloc(),
-            &[plain(2), plain(4), edge],
-            &[false, false, true]
-        )
-    );
-    let keys = [exist(alloc, 0, 1), exist(alloc, 0, 2)];
-    assert!(rt; are_eligible(&rt, rt.alloc(), &keys, &[false, true]));
-    let roles = [exist(alloc, 0, 2), exist(alloc, 1, 1)];
-    assert!(rt; are_eligible(&rt, rt.alloc(), &roles, &[false, true]));
+fn what_is_greatest_in_the_order_of_the_calculus_is_eligible(rt: HostRuntime) {
+    let table: [(&[Part], &[bool]); 6] = [
+        // The greatest of named atoms is eligible alone.
+        (&[(None, 2), (None, 3)], &[false, true]),
+        // The greatest of the other atoms is eligible alone.
+        (&[(None, 2), (None, 4)], &[false, true]),
+        (&[(None, 4), (None, 5)], &[false, true]),
+        // The greatest existential is eligible alone.
+        (&[(None, 2), (None, 4), (Some(0), 1)], &[false, false, true]),
+        (&[(Some(0), 1), (Some(0), 2)], &[false, true]),
+        (&[(Some(0), 2), (Some(1), 1)], &[false, true]),
+    ];
+    for (row, (parts, wanted)) in table.iter().enumerate() {
+        assert!(rt; are_eligible(&rt, rt.alloc(), parts, wanted), "row {row}");
+    }
 }

@@ -1,11 +1,10 @@
 //! Generated documents against what is written out by hand.
-ghost use Rattle.std.specs.Prelude.{◌≤◌};
-
+//! What has many parts is let go of by `drop`, which the prover takes as one step.
 use cd_base::Seq;
 use cd_gen::make;
 use cd_meaning::Axiom;
 use std::alloc::Global;
-use std::test::Fail;
+use std::process::Abort;
 
 const CLASSES: [&str; 8] = [
     "http://www.w3.org/2002/07/owl#Thing",
@@ -38,69 +37,47 @@ fn are_names(names: &[Seq<u8>], expected: &[&str]) -> bool {
     same
 }
 
-fn are_axioms(alloc: Global, axioms: &[Axiom], expected: &[&str]) -> Result<bool, Fail> {
+/// Whether the axiom is shown like this.
+fn is_shown(rt: &impl Abort, alloc: Global, axiom: &Axiom, text: &str) -> bool {
+    let shown = format!(in alloc; "{:?}", axiom).expect(rt, "memory");
+    let holds = shown.as_str() == text;
+    drop(shown);
+    holds
+}
+
+fn are_axioms(rt: &impl Abort, alloc: Global, axioms: &[Axiom], expected: &[&str]) -> bool {
     let mut same = axioms.len() == expected.len();
     for (stated, text) in axioms.iter().zip(expected.iter()) {
-        let shown = format!(in alloc; "{:?}", stated)?;
-        same = same && shown.as_str() == *text;
+        same = same && is_shown(rt, alloc, stated, text);
     }
-    Ok(same)
-}
-
-fn is_one_level(alloc: Global) -> Result<bool, Fail> {
-    let document = make(alloc, 1)?;
-    let classes = are_names(document.classes.items(), &CLASSES);
-    let roles = are_names(document.roles.items(), &ROLES);
-    Ok(classes && roles && are_axioms(alloc, document.axioms.items(), &AXIOMS)?)
+    same
 }
 
 #[test]
-fn one_level_has_the_names_and_the_axioms_written_out(rt: HostRuntime) -> Result<(), Fail> {
-    assert!(rt; is_one_level(rt.alloc())?);
-    Ok(())
-}
-
-/// How many classes, roles and axioms there are.
-fn sizes(alloc: Global, n: u32) -> Result<(usize, usize, usize), Fail>
-    requires least { 1 ≤ n }
-    requires most { n ≤ 20000 }
-{
-    let document = make(alloc, n)?;
-    Ok((
-        document.classes.items().len(),
-        document.roles.items().len(),
-        document.axioms.items().len(),
-    ))
+fn one_level_has_the_names_and_the_axioms_written_out(rt: HostRuntime) {
+    let document = make(rt.alloc(), 1).expect(&rt, "memory");
+    assert!(rt; are_names(document.classes.items(), &CLASSES));
+    assert!(rt; are_names(document.roles.items(), &ROLES));
+    assert!(rt; are_axioms(&rt, rt.alloc(), document.axioms.items(), &AXIOMS));
+    drop(document);
 }
 
 #[test]
-fn each_level_adds_four_classes_and_six_axioms(rt: HostRuntime) -> Result<(), Fail> {
-    assert_eq!(rt; sizes(rt.alloc(), 1)?, (8, 2, 7));
-    assert_eq!(rt; sizes(rt.alloc(), 3)?, (16, 2, 19));
-    Ok(())
-}
-
-/// The name of the last class, and the last axiom.
-fn last(alloc: Global, n: u32) -> Result<(bool, String), Fail>
-    requires least { 1 ≤ n }
-    requires most { n ≤ 20000 }
-{
-    let document = make(alloc, n)?;
-    let named = match document.classes.items().last() {
-        Some(name) => name.items() == "urn:trial:U19999".as_bytes(),
-        None => false,
-    };
-    let stated = format!(in alloc; "{:?}", document.axioms.items().last())?;
-    Ok((named, stated))
+fn each_level_adds_four_classes_and_six_axioms(rt: HostRuntime) {
+    let document = make(rt.alloc(), 3).expect(&rt, "memory");
+    assert!(rt; document.classes.items().len() == 16);
+    assert!(rt; document.roles.items().len() == 2);
+    assert!(rt; document.axioms.items().len() == 19);
+    drop(document);
 }
 
 #[test]
-fn the_last_level_is_numbered_below_their_number(rt: HostRuntime) -> Result<(), Fail> {
-    let (named, stated) = last(rt.alloc(), 20_000)?;
-    assert!(rt; named);
-    assert_eq!(rt;
-        stated.as_str(),
-        "Some(SubClass(Name(80000), SomeOf(0, Boxed { inner: Name(79996) })))"
-    );
-    Ok(())
+fn the_last_level_is_numbered_below_their_number(rt: HostRuntime) {
+    let document = make(rt.alloc(), 20_000).expect(&rt, "memory");
+    let name = document.classes.items().last().expect(&rt, "a class");
+    assert!(rt; name.items() == "urn:trial:U19999".as_bytes());
+    let axiom = document.axioms.items().last().expect(&rt, "an axiom");
+    let text = "SubClass(Name(80000), SomeOf(0, Boxed { inner: Name(79996) }))";
+    assert!(rt; is_shown(&rt, rt.alloc(), axiom, text));
+    drop(document);
 }

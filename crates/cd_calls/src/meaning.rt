@@ -2,9 +2,9 @@
 //! What has many parts is let go of by `drop`, which the prover takes as one step.
 ghost use Rattle.std.specs.Prelude.{◌≡◌};
 
+use crate::expressions::{all_of, join, meet, minus, names, some_of};
 use cd_base::Seq;
 use cd_meaning::{Axiom, Edge, Expr, Interpretation, Member, NOTHING, THING, holds, is_in};
-use sqlite_items::{Boxed, Items};
 use std::alloc::Global;
 use std::process::Abort;
 
@@ -47,110 +47,54 @@ fn edge(role: u32, target: u32) -> Edge
     }
 }
 
-/// The names of these classes.
-fn names(rt: &impl Abort, alloc: Global, classes: &[u32]) -> Vec<Expr> {
-    let mut found = Vec::new(alloc);
-    for class in classes {
-        found.push(Expr::Name(*class)).expect(rt, "memory");
-    }
-    found
-}
-
-/// The expression in a box.
-fn boxed(rt: &impl Abort, alloc: Global, part: Expr) -> Boxed<Expr> {
-    Boxed::new(alloc, part).expect(rt, "memory")
-}
-
 /// Whether the first element is in the expression, and whether the second is.
-fn members(i: &Interpretation, e: Expr) -> (bool, bool)
+fn members(i: &Interpretation, e: &Expr) -> (bool, bool)
     requires { i.now.size ≡ 2 }
 {
-    let found = (is_in(i, 0, &e), is_in(i, 1, &e));
-    drop(e);
-    found
+    (is_in(i, 0, e), is_in(i, 1, e))
 }
 
-/// The members of an expression, which the two elements give.
+/// Which of the two elements are in the expression.
 fn members_of(rt: &impl Abort, alloc: Global, e: Expr) -> (bool, bool) {
     let i = two_elements(rt, alloc);
-    let found = members(&i, e);
+    let found = members(&i, &e);
+    drop(e);
     drop(i);
     found
 }
 
-fn class(rt: &impl Abort, alloc: Global, class: u32) -> (bool, bool) {
-    members_of(rt, alloc, Expr::Name(class))
+#[test]
+fn each_form_of_expression_has_its_members(rt: HostRuntime) {
+    let alloc = rt.alloc();
+    // Owl:Thing has all elements, and owl:Nothing has none.
+    assert!(rt; members_of(&rt, alloc, Expr::Name(THING)) == (true, true));
+    assert!(rt; members_of(&rt, alloc, Expr::Name(NOTHING)) == (false, false));
+    // A class has the elements that are listed.
+    assert!(rt; members_of(&rt, alloc, Expr::Name(A)) == (true, false));
+    assert!(rt; members_of(&rt, alloc, Expr::Name(EMPTY)) == (false, false));
+    // A complement has the other elements.
+    let other = minus(&rt, alloc, Expr::Name(A));
+    assert!(rt; members_of(&rt, alloc, other) == (false, true));
+    // An intersection has what all have, and a union what some have.
+    let both = meet(names(&rt, alloc, &[THING, A]));
+    assert!(rt; members_of(&rt, alloc, both) == (true, false));
+    let either = join(names(&rt, alloc, &[A, B]));
+    assert!(rt; members_of(&rt, alloc, either) == (true, true));
 }
 
-fn complement(rt: &impl Abort, alloc: Global, class: u32) -> (bool, bool) {
-    members_of(rt, alloc, Expr::Minus(boxed(rt, alloc, Expr::Name(class))))
-}
-
-fn intersection(rt: &impl Abort, alloc: Global, classes: &[u32]) -> (bool, bool) {
-    members_of(
-        rt,
-        alloc,
-        Expr::Meet(Items::from_vec(names(rt, alloc, classes))),
-    )
-}
-
-fn union(rt: &impl Abort, alloc: Global, classes: &[u32]) -> (bool, bool) {
-    members_of(
-        rt,
-        alloc,
-        Expr::Join(Items::from_vec(names(rt, alloc, classes))),
-    )
-}
-
-fn some(rt: &impl Abort, alloc: Global, role: u32, class: u32) -> (bool, bool) {
-    members_of(
-        rt,
-        alloc,
-        Expr::SomeOf(role, boxed(rt, alloc, Expr::Name(class))),
-    )
-}
-
-fn all(rt: &impl Abort, alloc: Global, role: u32, class: u32) -> (bool, bool) {
-    members_of(
-        rt,
-        alloc,
-        Expr::AllOf(role, boxed(rt, alloc, Expr::Name(class))),
-    )
+/// What has an edge of the role to a member of the class, and what has edges of the role to such members alone.
+fn edges(rt: &impl Abort, alloc: Global, role: u32, class: u32) -> ((bool, bool), (bool, bool)) {
+    let some = some_of(rt, alloc, role, Expr::Name(class));
+    let all = all_of(rt, alloc, role, Expr::Name(class));
+    (members_of(rt, alloc, some), members_of(rt, alloc, all))
 }
 
 #[test]
-fn thing_has_all_elements_and_nothing_has_none(rt: HostRuntime) {
-    assert!(rt; class(&rt, rt.alloc(), THING) == (true, true));
-    assert!(rt; class(&rt, rt.alloc(), NOTHING) == (false, false));
-}
-
-#[test]
-fn a_class_has_the_elements_that_are_listed(rt: HostRuntime) {
-    assert!(rt; class(&rt, rt.alloc(), A) == (true, false));
-    assert!(rt; class(&rt, rt.alloc(), EMPTY) == (false, false));
-}
-
-#[test]
-fn a_complement_has_the_other_elements(rt: HostRuntime) {
-    assert!(rt; complement(&rt, rt.alloc(), A) == (false, true));
-}
-
-#[test]
-fn an_intersection_has_what_all_have_and_a_union_what_some_have(rt: HostRuntime) {
-    assert!(rt; intersection(&rt, rt.alloc(), &[THING, A]) == (true, false));
-    assert!(rt; union(&rt, rt.alloc(), &[A, B]) == (true, true));
-}
-
-#[test]
-fn an_existential_has_what_a_role_leads_from_to_a_member(rt: HostRuntime) {
-    assert!(rt; some(&rt, rt.alloc(), 0, B) == (true, false));
-    assert!(rt; some(&rt, rt.alloc(), 1, B) == (false, false));
-}
-
-#[test]
-fn a_universal_has_what_a_role_leads_from_to_members_alone(rt: HostRuntime) {
-    assert!(rt; all(&rt, rt.alloc(), 0, B) == (false, true));
-    assert!(rt; all(&rt, rt.alloc(), 1, A) == (true, true));
+fn an_existential_and_a_universal_have_what_a_role_leads_from(rt: HostRuntime) {
+    let alloc = rt.alloc();
+    assert!(rt; edges(&rt, alloc, 0, B) == ((true, false), (false, true)));
+    assert!(rt; edges(&rt, alloc, 1, B) == ((false, false), (false, true)));
+    assert!(rt; edges(&rt, alloc, 1, A) == ((true, false), (true, true)));
 }
 
 /// Whether an axiom holds in the two elements.
@@ -162,6 +106,7 @@ fn is_true(rt: &impl Abort, alloc: Global, axiom: Axiom) -> bool {
     found
 }
 
+/// Whether the first class is below the second.
 fn sub_class(rt: &impl Abort, alloc: Global, lower: u32, upper: u32) -> bool {
     is_true(
         rt,
@@ -170,113 +115,75 @@ fn sub_class(rt: &impl Abort, alloc: Global, lower: u32, upper: u32) -> bool {
     )
 }
 
-#[test]
-fn a_subclass_has_no_element_that_its_superclass_lacks(rt: HostRuntime) {
-    assert!(rt; sub_class(&rt, rt.alloc(), A, C));
-    assert!(rt; !sub_class(&rt, rt.alloc(), THING, A));
-}
-
-fn same_classes(rt: &impl Abort, alloc: Global, classes: &[u32]) -> bool {
-    is_true(
-        rt,
-        alloc,
-        Axiom::SameClasses(Seq::of(names(rt, alloc, classes))),
-    )
+/// Whether the classes are the same, and whether they are disjoint.
+fn relate(rt: &impl Abort, alloc: Global, classes: &[u32]) -> (bool, bool) {
+    let same = Axiom::SameClasses(Seq::of(names(rt, alloc, classes)));
+    let disjoint = Axiom::Disjoint(Seq::of(names(rt, alloc, classes)));
+    (is_true(rt, alloc, same), is_true(rt, alloc, disjoint))
 }
 
 #[test]
-fn classes_are_the_same_where_all_have_the_same_elements(rt: HostRuntime) {
-    assert!(rt; same_classes(&rt, rt.alloc(), &[A, C, A]));
-    assert!(rt; !same_classes(&rt, rt.alloc(), &[A, C, EMPTY]));
-}
-
-fn disjoint(rt: &impl Abort, alloc: Global, classes: &[u32]) -> bool {
-    is_true(
-        rt,
-        alloc,
-        Axiom::Disjoint(Seq::of(names(rt, alloc, classes))),
-    )
-}
-
-#[test]
-fn classes_are_disjoint_where_no_two_share_an_element(rt: HostRuntime) {
-    assert!(rt; disjoint(&rt, rt.alloc(), &[A, B, A]));
-    assert!(rt; !disjoint(&rt, rt.alloc(), &[A, B, C]));
+fn axioms_on_classes_hold_by_the_members(rt: HostRuntime) {
+    let alloc = rt.alloc();
+    // A class is below another where it has no element that the other lacks.
+    assert!(rt; sub_class(&rt, alloc, A, C));
+    assert!(rt; !sub_class(&rt, alloc, THING, A));
+    // Classes are the same where all have the same elements, and disjoint where no two share an element.
+    assert!(rt; relate(&rt, alloc, &[A, C, A]) == (true, false));
+    assert!(rt; relate(&rt, alloc, &[A, C, EMPTY]) == (false, false));
+    assert!(rt; relate(&rt, alloc, &[A, B, A]) == (false, true));
+    assert!(rt; relate(&rt, alloc, &[A, B, C]) == (false, false));
 }
 
 /// A and ObjectComplementOf(ObjectComplementOf(A)) have the same elements, but are two trees.
 fn a_and_its_double_complement(rt: &impl Abort, alloc: Global) -> Vec<Expr> {
     let mut operands = names(rt, alloc, &[A]);
-    let once = Expr::Minus(boxed(rt, alloc, Expr::Name(A)));
-    operands
-        .push(Expr::Minus(boxed(rt, alloc, once)))
-        .expect(rt, "memory");
+    let twice = minus(rt, alloc, minus(rt, alloc, Expr::Name(A)));
+    operands.push(twice).expect(rt, "memory");
     operands
 }
 
-#[test]
-fn a_class_and_its_double_complement_are_not_disjoint(rt: HostRuntime) {
-    let operands = a_and_its_double_complement(&rt, rt.alloc());
-    assert!(rt; !is_true(&rt, rt.alloc(), Axiom::Disjoint(Seq::of(operands))));
-}
-
+/// Whether the class is the disjoint union of these.
 fn disjoint_union(rt: &impl Abort, alloc: Global, class: u32, classes: &[u32]) -> bool {
-    is_true(
-        rt,
-        alloc,
-        Axiom::DisjointUnion(class, Seq::of(names(rt, alloc, classes))),
-    )
+    let parts = Seq::of(names(rt, alloc, classes));
+    is_true(rt, alloc, Axiom::DisjointUnion(class, parts))
 }
 
 #[test]
-fn a_disjoint_union_has_what_its_disjoint_parts_have(rt: HostRuntime) {
-    assert!(rt; disjoint_union(&rt, rt.alloc(), THING, &[A, B]));
-    assert!(rt; disjoint_union(&rt, rt.alloc(), A, &[A, EMPTY]));
+fn disjointness_is_of_elements_and_not_of_trees(rt: HostRuntime) {
+    let alloc = rt.alloc();
+    let operands = a_and_its_double_complement(&rt, alloc);
+    assert!(rt; !is_true(&rt, alloc, Axiom::Disjoint(Seq::of(operands))));
+    // A disjoint union has what its disjoint parts have.
+    assert!(rt; disjoint_union(&rt, alloc, THING, &[A, B]));
+    assert!(rt; disjoint_union(&rt, alloc, A, &[A, EMPTY]));
+    // Parts that overlap or have more are none.
+    assert!(rt; !disjoint_union(&rt, alloc, THING, &[A, B, C]));
+    assert!(rt; !disjoint_union(&rt, alloc, A, &[A, B]));
 }
 
-#[test]
-fn parts_that_overlap_or_have_more_are_no_disjoint_union(rt: HostRuntime) {
-    assert!(rt; !disjoint_union(&rt, rt.alloc(), THING, &[A, B, C]));
-    assert!(rt; !disjoint_union(&rt, rt.alloc(), A, &[A, B]));
-}
-
-fn sub_role(rt: &impl Abort, alloc: Global, lower: u32, upper: u32) -> bool {
-    is_true(rt, alloc, Axiom::SubRole(lower, upper))
-}
-
-#[test]
-fn a_subrole_leads_nowhere_that_its_superrole_does_not(rt: HostRuntime) {
-    assert!(rt; sub_role(&rt, rt.alloc(), 1, 0));
-    assert!(rt; !sub_role(&rt, rt.alloc(), 0, 1));
-}
-
+/// Whether two roles lead to the same.
 fn same_roles(rt: &impl Abort, alloc: Global, first: u32, second: u32) -> bool {
     let roles = vec![in alloc; first, second].expect(rt, "memory");
     is_true(rt, alloc, Axiom::SameRoles(Seq::of(roles)))
 }
 
-#[test]
-fn roles_are_the_same_where_they_lead_to_the_same(rt: HostRuntime) {
-    assert!(rt; same_roles(&rt, rt.alloc(), 1, 2));
-    assert!(rt; !same_roles(&rt, rt.alloc(), 1, 0));
-}
-
-fn domain(rt: &impl Abort, alloc: Global, role: u32, class: u32) -> bool {
-    is_true(rt, alloc, Axiom::Domain(role, Expr::Name(class)))
+/// Whether the class has all that the role leads from, and whether it has all that the role leads to.
+fn ends(rt: &impl Abort, alloc: Global, role: u32, class: u32) -> (bool, bool) {
+    let domain = Axiom::Domain(role, Expr::Name(class));
+    let range = Axiom::Range(role, Expr::Name(class));
+    (is_true(rt, alloc, domain), is_true(rt, alloc, range))
 }
 
 #[test]
-fn a_domain_has_all_that_a_role_leads_from(rt: HostRuntime) {
-    assert!(rt; domain(&rt, rt.alloc(), 0, A));
-    assert!(rt; !domain(&rt, rt.alloc(), 0, B));
-}
-
-fn range(rt: &impl Abort, alloc: Global, role: u32, class: u32) -> bool {
-    is_true(rt, alloc, Axiom::Range(role, Expr::Name(class)))
-}
-
-#[test]
-fn a_range_has_all_that_a_role_leads_to(rt: HostRuntime) {
-    assert!(rt; range(&rt, rt.alloc(), 1, A));
-    assert!(rt; !range(&rt, rt.alloc(), 0, A));
+fn axioms_on_roles_hold_by_the_edges(rt: HostRuntime) {
+    let alloc = rt.alloc();
+    // A role is below another where it leads nowhere that the other does not.
+    assert!(rt; is_true(&rt, alloc, Axiom::SubRole(1, 0)));
+    assert!(rt; !is_true(&rt, alloc, Axiom::SubRole(0, 1)));
+    assert!(rt; same_roles(&rt, alloc, 1, 2));
+    assert!(rt; !same_roles(&rt, alloc, 1, 0));
+    assert!(rt; ends(&rt, alloc, 0, A) == (true, false));
+    assert!(rt; ends(&rt, alloc, 0, B) == (false, false));
+    assert!(rt; ends(&rt, alloc, 1, A) == (true, true));
 }

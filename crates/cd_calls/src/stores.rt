@@ -1,6 +1,6 @@
 //! Small stores. Expected values are written by hand.
 //! What has many parts is let go of by `drop`, which the prover takes as one step.
-use cd_base::{Atom, Key, Role};
+use cd_base::{Atom, Key, Lit, Role};
 use cd_clause::{Clause, Elem};
 use cd_store::{Added, Store};
 use std::alloc::Global;
@@ -22,43 +22,51 @@ fn add(rt: &impl Abort, alloc: Global, store: &mut Store, atoms: &[u32]) -> Adde
         .expect(rt, "memory")
 }
 
-#[test]
-fn a_clause_is_stored_unless_a_subset_is_live(rt: HostRuntime) {
-    let mut store = Store::new(rt.alloc());
-    assert!(rt; add(&rt, rt.alloc(), &mut store, &[2, 3]) == Added::New(0));
-    assert!(rt; add(&rt, rt.alloc(), &mut store, &[2, 3, 4]) == Added::Held(0));
-    assert!(rt; store.live() == [0].as_slice());
+/// Whether adding the clauses of these atoms in turn comes to this, and leaves these live, of so many that are stored.
+fn comes_to(
+    rt: &impl Abort,
+    alloc: Global,
+    steps: &[(&[u32], Added)],
+    live: &[usize],
+    stored: usize,
+) -> bool {
+    let mut store = Store::new(alloc);
+    let mut holds = true;
+    for (atoms, added) in steps {
+        holds = add(rt, alloc, &mut store, atoms) == *added && holds;
+    }
+    holds = holds && store.live() == live && store.clauses().len() == stored;
     drop(store);
+    holds
 }
 
 #[test]
-fn the_supersets_of_a_new_clause_die(rt: HostRuntime) {
-    let mut store = Store::new(rt.alloc());
-    assert!(rt; add(&rt, rt.alloc(), &mut store, &[2, 3]) == Added::New(0));
-    assert!(rt; add(&rt, rt.alloc(), &mut store, &[2]) == Added::New(1));
-    assert!(rt; add(&rt, rt.alloc(), &mut store, &[2, 3]) == Added::Held(1));
-    assert!(rt; store.live() == [1].as_slice());
-    assert_eq!(rt; store.clauses().len(), 2);
-    drop(store);
-}
-
-#[test]
-fn the_least_number_of_a_live_subset_is_told(rt: HostRuntime) {
-    let mut store = Store::new(rt.alloc());
-    assert!(rt; add(&rt, rt.alloc(), &mut store, &[5]) == Added::New(0));
-    assert!(rt; add(&rt, rt.alloc(), &mut store, &[7]) == Added::New(1));
-    assert!(rt; add(&rt, rt.alloc(), &mut store, &[5, 7]) == Added::Held(0));
-    drop(store);
-}
-
-#[test]
-fn the_empty_clause_is_live_alone(rt: HostRuntime) {
-    let mut store = Store::new(rt.alloc());
-    assert!(rt; add(&rt, rt.alloc(), &mut store, &[5]) == Added::New(0));
-    assert!(rt; add(&rt, rt.alloc(), &mut store, &[7]) == Added::New(1));
-    assert!(rt; add(&rt, rt.alloc(), &mut store, &[]) == Added::New(2));
-    assert!(rt; store.live() == [2].as_slice());
-    drop(store);
+fn what_adding_comes_to_is_told(rt: HostRuntime) {
+    let alloc = rt.alloc();
+    // A clause is stored unless a live one covers it.
+    let steps: [(&[u32], Added); 2] = [(&[2, 3], Added::New(0)), (&[2, 3, 4], Added::Held(0))];
+    assert!(rt; comes_to(&rt, alloc, &steps, &[0], 1));
+    // What a new clause covers dies.
+    let steps: [(&[u32], Added); 3] = [
+        (&[2, 3], Added::New(0)),
+        (&[2], Added::New(1)),
+        (&[2, 3], Added::Held(1)),
+    ];
+    assert!(rt; comes_to(&rt, alloc, &steps, &[1], 2));
+    // The least number of those that cover it is told.
+    let steps: [(&[u32], Added); 3] = [
+        (&[5], Added::New(0)),
+        (&[7], Added::New(1)),
+        (&[5, 7], Added::Held(0)),
+    ];
+    assert!(rt; comes_to(&rt, alloc, &steps, &[0, 1], 2));
+    // The empty clause is live alone.
+    let steps: [(&[u32], Added); 3] = [
+        (&[5], Added::New(0)),
+        (&[7], Added::New(1)),
+        (&[], Added::New(2)),
+    ];
+    assert!(rt; comes_to(&rt, alloc, &steps, &[2], 3));
 }
 
 /// A store of four clauses: of 2 and 3, of 3 and 5, of 7, and of 4 and an edge to a 4.
@@ -74,26 +82,18 @@ fn four_clauses(rt: &impl Abort, alloc: Global) -> Store {
 }
 
 #[test]
-fn the_clauses_with_an_atom_are_found(rt: HostRuntime) {
+fn the_clauses_with_an_atom_or_an_existential_are_found(rt: HostRuntime) {
     let store = four_clauses(&rt, rt.alloc());
     let mut found = Vec::new(rt.alloc());
     store
         .push_with_atom(Atom(3), &mut found)
         .expect(&rt, "memory");
     assert!(rt; found.as_slice() == [0, 1].as_slice());
-    assert!(rt; store.may_have(Atom(3)) && store.may_have(Atom(4)) && !store.may_have(Atom(6)));
-    drop(found);
-    drop(store);
-}
-
-#[test]
-fn the_clauses_with_an_existential_are_found(rt: HostRuntime) {
-    let store = four_clauses(&rt, rt.alloc());
-    let mut found = Vec::new(rt.alloc());
     store
         .push_with_existentials(&mut found)
         .expect(&rt, "memory");
-    assert!(rt; found.as_slice() == [3].as_slice());
+    assert!(rt; found.as_slice() == [0, 1, 3].as_slice());
+    assert!(rt; store.may_have(Atom(3)) && store.may_have(Atom(4)) && !store.may_have(Atom(6)));
     drop(found);
     drop(store);
 }
@@ -145,6 +145,44 @@ fn a_dead_clause_is_not_live(rt: HostRuntime) {
     drop(store);
 }
 
+/// The clause of an existential to what is in each of these atoms.
+fn of_key(rt: &impl Abort, alloc: Global, first: u32, others: &[u32]) -> Clause {
+    let mut key = Key::single(alloc, Atom(first));
+    for atom in others {
+        let lit = Lit {
+            atom: Atom(*atom),
+            negated: false,
+        };
+        key = key.with(lit).expect(rt, "memory");
+    }
+    Clause::of(alloc, &[Elem::Exist(Role(0), key)]).expect(rt, "memory")
+}
+
+/// What adding the clause of an existential to what is in each of these atoms comes to.
+fn add_key(rt: &impl Abort, alloc: Global, store: &mut Store, first: u32, others: &[u32]) -> Added {
+    store
+        .add(alloc, of_key(rt, alloc, first, others))
+        .expect(rt, "memory")
+}
+
+#[test]
+fn of_existentials_the_one_to_the_larger_key_lives(rt: HostRuntime) {
+    let mut store = Store::new(rt.alloc());
+    let steps: [(u32, &[u32], Added); 6] = [
+        (3, &[], Added::New(0)),
+        (5, &[7], Added::New(1)),
+        (2, &[3, 4], Added::New(2)),
+        (4, &[], Added::Held(2)),
+        (2, &[4], Added::Held(2)),
+        (4, &[5], Added::New(3)),
+    ];
+    for (first, others, added) in steps {
+        assert!(rt; add_key(&rt, rt.alloc(), &mut store, first, others) == added);
+    }
+    assert!(rt; store.live() == [1, 2, 3].as_slice());
+    drop(store);
+}
+
 /// A clause that was stored, and whether it is live.
 #[derive(Debug, Drop)]
 struct Scanned {
@@ -152,13 +190,18 @@ struct Scanned {
     is_live: bool,
 }
 
-/// One of eight atoms and four existentials.
-fn elem(alloc: Global, number: u32) -> Elem {
-    let n = number % 12;
+/// One of eight atoms, and of eight existentials of two roles to keys of one literal or two.
+fn elem(rt: &impl Abort, alloc: Global, number: u32) -> Elem {
+    let n = number % 16;
     if n < 8 {
         return Elem::Plain(Atom(n));
     }
-    Elem::Exist(Role(n % 2), Key::single(alloc, Atom(n / 2 % 2)))
+    let lit = Lit {
+        atom: Atom(n / 2 % 2),
+        negated: n < 12,
+    };
+    let key = Key::single(alloc, Atom(n / 4 % 2));
+    Elem::Exist(Role(n % 2), key.with(lit).expect(rt, "memory"))
 }
 
 /// Three elements first, then two, then one, and none from 120 on.
@@ -166,32 +209,32 @@ fn shape(rt: &impl Abort, alloc: Global, step: u32) -> Clause {
     let n = step % 1_000;
     let mut elems = Vec::new(alloc);
     if n < 120 {
-        elems.push(elem(alloc, n * 5 + 1)).expect(rt, "memory");
+        elems.push(elem(rt, alloc, n * 5 + 1)).expect(rt, "memory");
     }
     if n < 80 {
-        elems.push(elem(alloc, n * 7 + 3)).expect(rt, "memory");
+        elems.push(elem(rt, alloc, n * 7 + 3)).expect(rt, "memory");
     }
     if n < 40 {
-        elems.push(elem(alloc, n / 3)).expect(rt, "memory");
+        elems.push(elem(rt, alloc, n / 3)).expect(rt, "memory");
     }
     Clause::of(alloc, elems.as_slice()).expect(rt, "memory")
 }
 
-/// The first live clause that is a subset.
+/// The first live clause that covers this one.
 fn scan(all: &[Scanned], clause: &Clause) -> Option<usize> {
     for i in 0..all.len() {
         let held = &all[i];
-        if held.is_live && held.clause.within(clause) {
+        if held.is_live && held.clause.covers(clause) {
             return Some(i);
         }
     }
     None
 }
 
-/// Makes each clause dead that contains this one.
+/// Makes each clause dead that this one covers.
 fn kill(all: &mut [Scanned], clause: &Clause) {
     for held in all.iter_mut() {
-        if clause.within(&held.clause) {
+        if clause.covers(&held.clause) {
             held.is_live = false;
         }
     }

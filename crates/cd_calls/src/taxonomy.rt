@@ -6,7 +6,7 @@ ghost use Rattle.cd_taxonomy.specs.Relation.{relation, HasClassesBelow, IsSubsum
 
 use cd_base::{Answer, Atom, Seq};
 use cd_meaning::Document;
-use cd_taxonomy::{summary, summary_text, taxonomy, text};
+use cd_taxonomy::{Group, summary, summary_text, taxonomy, text};
 use std::alloc::Global;
 use std::process::Abort;
 
@@ -71,7 +71,25 @@ fn atoms(rt: &impl Abort, alloc: Global, listed: &[Atom]) -> Answer
     Answer::Of(Seq::of(listed.to_vec(alloc).expect(rt, "memory")))
 }
 
-/// Whether the taxonomy has the text and the summary written out above.
+/// Whether the groups are those of owl:Nothing and C, of owl:Thing, of A and of B, in the order of their names, each with those above it.
+fn are_the_groups(groups: &[Group]) -> bool {
+    let members: [&[u32]; 4] = [&[1, 4], &[0], &[2], &[3]];
+    let parents: [&[u32]; 4] = [&[2], &[], &[3], &[1]];
+    if groups.len() != 4 {
+        return false;
+    }
+    for (number, group) in groups.iter().enumerate() {
+        if group.members.items() != members[number] {
+            return false;
+        }
+        if group.parents.items() != parents[number] {
+            return false;
+        }
+    }
+    true
+}
+
+/// Whether the taxonomy has these groups, and the text and the summary written out above.
 fn is_worked(rt: &impl Abort, alloc: Global, document: &Document, above: &[Answer]) -> bool
     requires answered { length above.now ≡ length document.now.classes }
     requires within { All (HasClassesBelow (length document.now.classes)) above.now }
@@ -83,12 +101,13 @@ fn is_worked(rt: &impl Abort, alloc: Global, document: &Document, above: &[Answe
     };
     let printed = text(alloc, document, &found).expect(rt, "memory");
     let counted = summary_text(alloc, &summary(&found)).expect(rt, "memory");
+    let grouped = are_the_groups(found.groups.items());
     drop(found);
-    printed.as_slice() == TEXT.as_bytes() && counted.as_slice() == SUMMARY.as_bytes()
+    grouped && printed.as_slice() == TEXT.as_bytes() && counted.as_slice() == SUMMARY.as_bytes()
 }
 
 #[test]
-fn a_worked_taxonomy_has_its_text_and_its_summary(rt: HostRuntime) {
+fn a_worked_taxonomy_has_its_groups_its_text_and_its_summary(rt: HostRuntime) {
     let document = document(&rt, rt.alloc());
     let above = answers(&rt, rt.alloc());
     assert!(rt; is_worked(&rt, rt.alloc(), &document, &above));

@@ -6,15 +6,15 @@ use Rattle.cd_base.specs.declared.normal.Normal.{Normal}
 use Rattle.cd_base.proofs.Members.{member_left}
 use Rattle.cd_actor.specs.Cells.{At, IsLawful, AreAllLawful, Had}
 use Rattle.cd_actor.specs.Settled.{IsSettled, KeepsFamily}
-use Rattle.cd_clause.specs.Derivations.{from_named}
+use Rattle.cd_clause.proofs.Derive.{named_start, from_named}
 use Rattle.cd_context.specs.declared.facts.Fact.TheVariants.{Start}
 use Rattle.cd_context.specs.declared.facts.Note.{Note}
-use Rattle.cd_cell.specs.Cells.{CellState, IsLawfulNote, meaning}
+use Rattle.cd_cell.specs.Cells.{CellState, IsLawfulNote, meaning, place_of}
 use Rattle.cd_cell.proofs.Lookups.{has_from, member_of_state}
 use Rattle.cd_core.specs.Begin.{IsBegun as IsResumed}
 use Rattle.cd_core.specs.State.{CoreState, KeepsAll}
 use Rattle.cd_sample.specs.CoreRuns.{IsUnderWay, IsWorked}
-use Rattle.cd_saturation.specs.Saturation.{AreNew, place_for, start_of}
+use Rattle.cd_saturation.specs.Saturation.{AreNew, start_of}
 use Rattle.cd_saturation.proofs.Runs.{of_family}
 
 module _ (n : Normal) (a : ℕ) (named : is_named n a ≡ true) (cells : List CellState) (new : AreNew n 1 cells) (start : List (ℕ × Note)) (is : start ≡ start_of 1 a ∷ []) where
@@ -23,11 +23,11 @@ module _ (n : Normal) (a : ℕ) (named : is_named n a ≡ true) (cells : List Ce
   one_lawful x m = elim (subst (λ s. OneOf x s) is m) [
     | inl q ↦ subst (λ z. IsLawful meaning cells z) (sym q) (
       omega (arith, new.each),
-      λ c at. subst (λ (c : CellState). IsLawfulNote c.normal c.cells (place_for 1 a) (record { key = plain a ∷ []; fact = Start })) (sym (new.are (place_for 1 a) c at)) record {
+      λ c at. subst (λ (c : CellState). IsLawfulNote c.normal c.cells (place_of 1 (plain a ∷ [])) (record { key = plain a ∷ []; fact = Start })) (sym (new.are (place_of 1 (plain a ∷ [])) c at)) record {
         below = omega arith;
         goes = refl;
         reachable = from_named a named refl;
-        justified = (a, named, refl);
+        justified = named_start n (plain a ∷ []) a named refl;
       },
     )
     | inr z ↦ absurd z

@@ -7,13 +7,13 @@ use Rattle.cd_base.specs.Normal.{same}
 use Rattle.cd_base.specs.declared.normal.Normal.{Normal}
 use Rattle.cd_clause.specs.declared.elem.Elem.{Elem}
 use Rattle.cd_clause.specs.declared.elem.Elem.TheVariants.{Plain, Exist}
-use Rattle.cd_clause.specs.Derivations.{Reachable, Derived, HasDerived}
+use Rattle.cd_clause.specs.Derivations.{Reachable, Derived, HasDerived, HasSure}
 use Rattle.cd_clause.specs.Dictionary.{is_at_most}
 use Rattle.cd_clause.specs.Elements.{Eligible, rank}
 use Rattle.cd_clause.specs.Rules.{by_init, by_neg, by_ex, by_back}
 use Rattle.cd_clause.proofs.Derive.{derived_closed}
 use Rattle.cd_clause.proofs.Dictionary.{at_most_refl}
-use Rattle.cd_context.specs.declared.facts.Fact.TheVariants.{Link, Back, Dead}
+use Rattle.cd_context.specs.declared.facts.Fact.TheVariants.{Link, Back, Sure, Dead}
 use Rattle.cd_context.specs.Justified.{Justified}
 
 module _ (n : Normal) where
@@ -30,7 +30,7 @@ module _ (n : Normal) where
     isin = inr (inl refl);
     top = λ f m. elim m [
       | inl q ↦ subst (λ (x : Elem). is_at_most (rank n x) (2 ∷ r ∷ k) ≡ true) (sym q)
-          (cond_both (is_named n a) (0 ∷ []) (1 ∷ a ∷ []) (λ z. is_at_most z (2 ∷ r ∷ k) ≡ true) (λ t. refl) (λ t. refl))
+          (cond_both (is_named n a) (0 ∷ a ∷ []) (1 ∷ a ∷ []) (λ z. is_at_most z (2 ∷ r ∷ k) ≡ true) (λ t. refl) (λ t. refl))
       | inr l ↦ elim l [ inl q ↦ subst (λ (x : Elem). is_at_most (rank n x) (2 ∷ r ∷ k) ≡ true) (sym q) (at_most_refl (2 ∷ r ∷ k)) | inr z ↦ absurd z ]
     ];
   }
@@ -56,6 +56,13 @@ module _ (n : Normal) where
 
     pub back_justified : (key k : List ℕ) → key ≡ plain 2 ∷ [] → k ≡ plain 4 ∷ [] → Reachable n key → Justified n key (Back 0 k 4)
     back_justified key k p q reachable = (reachable, edge_of_two key k p q, subst (λ (y : List ℕ). HasDerived n y (Plain 4)) (sym q) four_in_four)
+
+    pub sure_justified : (key k : List ℕ) → key ≡ plain 2 ∷ [] → k ≡ plain 4 ∷ [] → Reachable n key → Justified n key (Sure 0 k 4)
+    sure_justified key k p q reachable = (
+      reachable,
+      edge_of_two key k p q,
+      subst (λ (y : List ℕ). HasSure n y 4) (sym q) (Plain 4 ∷ [], in_key 4 (plain 4 ∷ []) (inl refl), (λ x u. u, λ x u. u)),
+    )
 
     module _ (back : OneOf (record { atom = 4; role = 0; other = 5 }) n.n3) where
       five_or_edge : Derived n (plain 2 ∷ []) (Plain 5 ∷ Exist 0 (plain 4 ∷ negated 4 ∷ []) ∷ [])

@@ -109,21 +109,21 @@ fn linked<'a>(rt: &impl Abort, alloc: Global, index: &'a Index, out: &mut Outbox
     cell
 }
 
-/// Whether the outbox has alone that the class 4 is in the context of its edge from 2, for the only cell.
-fn is_the_back_alone(alloc: Global, out: Outbox<Note>) -> bool {
+/// Whether the outbox has alone that what the edge from 2 leads to is a 4 for sure, for the only cell.
+fn is_the_sure_alone(alloc: Global, out: Outbox<Note>) -> bool {
     let key = Key::single(alloc, Atom(2));
-    let fact = Fact::Back(Role(0), Key::single(alloc, Atom(4)), Atom(4));
+    let fact = Fact::Sure(Role(0), Key::single(alloc, Atom(4)), Atom(4));
     is_alone(out, Note { key, fact })
 }
 
 #[test]
-fn a_link_begins_a_context_that_answers_with_a_back(rt: HostRuntime) {
+fn a_link_begins_a_context_that_answers_with_a_sure(rt: HostRuntime) {
     let index = hand_made(&rt, rt.alloc());
     let mut out = Outbox::new(rt.alloc());
     let cell = linked(&rt, rt.alloc(), &index, &mut out);
     assert_eq!(rt; cell.contexts(), 1);
     assert_eq!(rt; cell.facts(), 3);
     drop(cell);
-    assert!(rt; is_the_back_alone(rt.alloc(), out));
+    assert!(rt; is_the_sure_alone(rt.alloc(), out));
     drop(index);
 }

@@ -5,7 +5,7 @@ ghost use Rattle.cd_base.specs.Keys.{is_named, plain, negated};
 ghost use Rattle.cd_base.specs.Lists.{OneOf};
 ghost use Rattle.cd_context.specs.Justified.{IsContext, ClosedLocally};
 
-use crate::sample::{hand_made, universal_index};
+use crate::sample::{choice_index, hand_made, universal_index};
 use cd_base::{Atom, Key, Lit, Role};
 use cd_context::{Context, Fact, Note};
 use cd_index::Index;
@@ -142,10 +142,17 @@ fn are_the_link_to(alloc: Global, notes: &[Note], key: Key) -> bool {
     are_only(notes, Note { key, fact })
 }
 
-/// Whether the notes are that the context of 4 has the class 4, for the context of 2, and no other.
-fn are_the_back_of_four(alloc: Global, notes: &[Note]) -> bool {
+/// Whether the notes are that the context of 4 has the clause of 4 alone, for the context of 2, and no other.
+fn are_the_sure_of_four(alloc: Global, notes: &[Note]) -> bool {
     let key = two(alloc);
-    let fact = Fact::Back(Role(0), four(alloc), Atom(4));
+    let fact = Fact::Sure(Role(0), four(alloc), Atom(4));
+    are_only(notes, Note { key, fact })
+}
+
+/// Whether the notes are that the context of 4 has a clause with 3, for the context of 2, and no other.
+fn are_the_back_of_three(alloc: Global, notes: &[Note]) -> bool {
+    let key = two(alloc);
+    let fact = Fact::Back(Role(0), four(alloc), Atom(3));
     are_only(notes, Note { key, fact })
 }
 
@@ -168,6 +175,53 @@ fn tell_back(
     context
         .absorb(alloc, Fact::Back(Role(0), four(alloc), Atom(4)), index, out)
         .expect(rt, "memory");
+}
+
+/// Tells the context of 2 that the context of 4 has the clause of 4 alone.
+fn tell_sure(
+    rt: &impl Abort,
+    alloc: Global,
+    index: &Index,
+    context: &mut Context,
+    out: &mut Vec<Note>,
+)
+    requires edge { OneOf (record { atom = 2; role = 0; other = 4 }) index.now.normal.n2 }
+    requires key { context.old.key ≡ plain 2 ∷ [] }
+    requires context { IsContext index.now.normal context.old }
+    requires closed { ClosedLocally index.now.normal context.old }
+{
+    context
+        .absorb(alloc, Fact::Sure(Role(0), four(alloc), Atom(4)), index, out)
+        .expect(rt, "memory");
+}
+
+/// Whether the sure gives the clause of 5, and nothing is told.
+fn is_silent_at_the_sure(
+    rt: &impl Abort,
+    alloc: Global,
+    index: &Index,
+    context: &mut Context,
+) -> bool
+    requires edge { OneOf (record { atom = 2; role = 0; other = 4 }) index.now.normal.n2 }
+    requires key { context.old.key ≡ plain 2 ∷ [] }
+    requires context { IsContext index.now.normal context.old }
+    requires closed { ClosedLocally index.now.normal context.old }
+{
+    let mut out = Vec::new(alloc);
+    let had = context.has_single(Atom(5));
+    tell_sure(rt, alloc, index, context, &mut out);
+    let holds = !had && context.has_single(Atom(5)) && context.facts() == 6 && out.is_empty();
+    drop(out);
+    holds
+}
+
+#[test]
+fn what_holds_for_sure_of_an_existential_needs_no_case(rt: HostRuntime) {
+    let index = hand_made(&rt, rt.alloc());
+    let mut context = begun(&rt, rt.alloc(), &index, 2);
+    assert!(rt; is_silent_at_the_sure(&rt, rt.alloc(), &index, &mut context));
+    drop(context);
+    drop(index);
 }
 
 /// Tells the context of 2 that the context of 4 and not 4 has the empty clause.
@@ -285,7 +339,7 @@ fn tell_link(
         .expect(rt, "memory");
 }
 
-/// Whether the link makes the context tell 2 that it has the class 4, and nothing else, and is the only fact that comes.
+/// Whether the link makes the context tell 2 that it has the class 4 for sure, and nothing else, and is the only fact that comes.
 fn tells_of_its_class(rt: &impl Abort, alloc: Global, index: &Index, context: &mut Context) -> bool
     requires two { is_named index.now.normal 2 ≡ true }
     requires edge { OneOf (record { atom = 2; role = 0; other = 4 }) index.now.normal.n2 }
@@ -296,28 +350,52 @@ fn tells_of_its_class(rt: &impl Abort, alloc: Global, index: &Index, context: &m
     let mut out = Vec::new(alloc);
     let before = context.facts();
     tell_link(rt, alloc, index, context, &mut out);
-    let told = are_the_back_of_four(alloc, out.as_slice());
+    let told = are_the_sure_of_four(alloc, out.as_slice());
     drop(out);
     before == 2 && told && context.facts() == 3
 }
 
-/// Whether it owes the back of 4 to the context of 2, and no other.
-fn owes_the_back_of_four(rt: &impl Abort, alloc: Global, index: &Index, context: &Context) -> bool {
+/// Whether it owes the sure of 4 to the context of 2, and no other.
+fn owes_the_sure_of_four(rt: &impl Abort, alloc: Global, index: &Index, context: &Context) -> bool {
     let mut out = Vec::new(alloc);
     context
         .list_owed(alloc, index, &mut out)
         .expect(rt, "memory");
-    let holds = are_the_back_of_four(alloc, out.as_slice());
+    let holds = are_the_sure_of_four(alloc, out.as_slice());
     drop(out);
     holds
 }
 
 #[test]
-fn a_link_is_answered_by_a_back_for_the_atom_of_use(rt: HostRuntime) {
+fn a_link_is_answered_by_a_sure_for_the_atom_of_use(rt: HostRuntime) {
     let index = hand_made(&rt, rt.alloc());
     let mut context = begun(&rt, rt.alloc(), &index, 4);
     assert!(rt; tells_of_its_class(&rt, rt.alloc(), &index, &mut context));
-    assert!(rt; owes_the_back_of_four(&rt, rt.alloc(), &index, &context));
+    assert!(rt; owes_the_sure_of_four(&rt, rt.alloc(), &index, &context));
+    drop(context);
+    drop(index);
+}
+
+/// Whether the link makes the context tell 2 that it has the class 3 in some case, and nothing else.
+fn tells_of_its_case(rt: &impl Abort, alloc: Global, index: &Index, context: &mut Context) -> bool
+    requires two { is_named index.now.normal 2 ≡ true }
+    requires edge { OneOf (record { atom = 2; role = 0; other = 4 }) index.now.normal.n2 }
+    requires key { context.old.key ≡ plain 4 ∷ [] }
+    requires context { IsContext index.now.normal context.old }
+    requires closed { ClosedLocally index.now.normal context.old }
+{
+    let mut out = Vec::new(alloc);
+    tell_link(rt, alloc, index, context, &mut out);
+    let told = are_the_back_of_three(alloc, out.as_slice());
+    drop(out);
+    told
+}
+
+#[test]
+fn a_link_is_answered_by_a_back_for_an_atom_that_is_not_alone(rt: HostRuntime) {
+    let index = choice_index(&rt, rt.alloc());
+    let mut context = begun(&rt, rt.alloc(), &index, 4);
+    assert!(rt; tells_of_its_case(&rt, rt.alloc(), &index, &mut context));
     drop(context);
     drop(index);
 }

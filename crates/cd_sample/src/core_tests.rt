@@ -7,8 +7,8 @@ ghost use Rattle.cd_saturation.specs.Saturation.{AreNew, start_of};
 
 use crate::sample::hand_made;
 use cd_actor::Actor;
-use cd_base::{Answer, Atom, Key, Limits};
-use cd_cell::Cell;
+use cd_base::{Atom, Key, Limits};
+use cd_cell::{Cell, Reading};
 use cd_context::{Fact, Note};
 use cd_core::{Core, Step};
 use cd_index::Index;
@@ -99,17 +99,19 @@ fn are_the_four(atoms: &[Atom]) -> bool {
     atoms == [Atom(0), Atom(2), Atom(3), Atom(5)].as_slice()
 }
 
-/// Whether the class 2 is below 0, 2, 3 and 5 in a cell of three contexts.
+/// Whether the class 2 is below 0, 2, 3 and 5 in a cell of two contexts.
 fn has_the_answer<'a>(rt: &impl Abort, alloc: Global, cells: &[Cell<'a>]) -> bool
     requires { IsWorked 2 cells.now }
 {
     let [cell] = cells else {
         return false;
     };
-    let answer = cell.subsumers(alloc, Atom(2)).expect(rt, "memory");
-    match answer {
-        Answer::Of(atoms) => cell.contexts() == 3 && are_the_four(atoms.items()),
-        Answer::Unsatisfiable => false,
+    let reading = cell.read(alloc, Atom(2)).expect(rt, "memory");
+    match reading {
+        Reading::Of(above, open) => {
+            cell.contexts() == 2 && are_the_four(above.items()) && open.items().is_empty()
+        }
+        Reading::Unsatisfiable => false,
     }
 }
 

@@ -10,11 +10,18 @@
 //! | `2 -> some 4` | each 2 has an edge to a 4 |
 //! | `some 4 -> 5` | whatever has an edge to a 4 is a 5 |
 //!
-//! So the class 2 is below 0, 3 and 5. That it is below 5 shows only where its context and the contexts of its edge tell each other:
+//! So the class 2 is below 0, 3 and 5. That it is below 5 shows only where its context and the context of its edge tell each other:
 //!
 //! ```text
 //! context of 2                                       context of 4
 //!   2, 0, 3, some 4             -- link -->             4, 0
+//!   5                           <-- sure --
+//! ```
+//!
+//! Were the context of 4 to have the class 4 only in some case, it would tell a back in place of the sure, and the case would get a context
+//! of its own, here one with the empty clause:
+//!
+//! ```text
 //!   5 or some (4 and not 4)     <-- back --
 //!                                                    context of 4 and not 4
 //!                               -- link -->             the empty clause
@@ -22,7 +29,8 @@
 //! ```
 //!
 //! A second one (`universal_index`) has `-> 0`, `0 2 -> 3`, the edge from each 2 to a 4, and that every edge from a 3 goes to a 5: clauses of
-//! the context of 2 have to meet in pairs.
+//! the context of 2 have to meet in pairs. In a third one (`choice_index`) each 4 is a 3 or a 5, so that the context of 4 has the class 3 in
+//! one case.
 //!
 //! The tests are a file for each crate whose calls they make: `index_tests`, `rules_tests`, `context_tests`, `cell_tests`, and `core_tests`
 //! for a core over cells. `numbers_tests` has cores over other cells (`numbers`), which are no part of a reasoner: what a core does to its

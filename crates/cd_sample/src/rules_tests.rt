@@ -6,7 +6,7 @@ use crate::sample::hand_made;
 use cd_base::{Atom, Key, Role};
 use cd_clause::{Clause, Elem};
 use cd_index::Index;
-use cd_rules::{BackFact, DeadFact, on_back, on_clause, on_dead, on_key};
+use cd_rules::{BackFact, DeadFact, SureFact, on_back, on_clause, on_dead, on_key, on_sure};
 use std::alloc::Global;
 use std::process::Abort;
 
@@ -40,7 +40,19 @@ fn from_clause(rt: &impl Abort, alloc: Global, index: &Index, clauses: &[Clause]
 {
     let key = Key::single(alloc, Atom(2));
     let mut out = Vec::new(alloc);
-    on_clause(alloc, index, &key, clauses, &[0], 0, &[], &[], &mut out).expect(rt, "memory");
+    on_clause(
+        alloc,
+        index,
+        &key,
+        clauses,
+        &[0],
+        0,
+        &[],
+        &[],
+        &[],
+        &mut out,
+    )
+    .expect(rt, "memory");
     out
 }
 
@@ -55,6 +67,20 @@ fn from_back(rt: &impl Abort, alloc: Global, index: &Index, clauses: &[Clause]) 
     };
     let mut out = Vec::new(alloc);
     on_back(index, clauses, &[0], &back, &mut out).expect(rt, "memory");
+    out
+}
+
+/// What a sure gives: that the context of the class 4 has the clause of the class 4 alone.
+fn from_sure(rt: &impl Abort, alloc: Global, index: &Index, clauses: &[Clause]) -> Vec<Clause>
+    requires { 0 < length clauses.now }
+{
+    let sure = SureFact {
+        role: Role(0),
+        key: Key::single(alloc, Atom(4)),
+        atom: Atom(4),
+    };
+    let mut out = Vec::new(alloc);
+    on_sure(index, clauses, &[0], &sure, &mut out).expect(rt, "memory");
     out
 }
 
@@ -103,6 +129,21 @@ fn a_back_keeps_the_existential_with_the_atom_negated(rt: HostRuntime) {
     let text =
         "[Clause { elems: [Plain(Atom(5)), Exist(Role(0), Key { lits: [Lit { atom: Atom(4), negated: false }, Lit { atom: Atom(4), negated: true }] })] }]";
     assert!(rt; are_written(&rt, rt.alloc(), &out, text));
+    drop(index);
+}
+
+#[test]
+fn a_sure_needs_no_case(rt: HostRuntime) {
+    let index = hand_made(&rt, rt.alloc());
+    let out = from_sure(&rt, rt.alloc(), &index, &edge_to_four(&rt, rt.alloc()));
+    assert!(rt;
+        are_written(
+            &rt,
+            rt.alloc(),
+            &out,
+            "[Clause { elems: [Plain(Atom(5))] }]"
+        )
+    );
     drop(index);
 }
 

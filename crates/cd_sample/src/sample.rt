@@ -146,3 +146,51 @@ pub fn universal_index(rt: &impl Abort, alloc: Global) -> Index
     let closure = Closure::of(alloc, normal.roles, normal.n5.items()).expect(rt, "memory");
     Index::of(alloc, normal, closure).expect(rt, "memory")
 }
+
+/// `4 -> 3 5`.
+fn one_choice(rt: &impl Abort, alloc: Global) -> Seq<Conj>
+    ensures { IsTrue (list_all (has_atoms_below 6) result) }
+{
+    let right = vec![in alloc; Atom(3), Atom(5)].expect(rt, "memory");
+    let choice = Conj {
+        left: one_atom(rt, alloc, 4),
+        right: Seq::of(right),
+    };
+    Seq::of(vec![in alloc; choice].expect(rt, "memory"))
+}
+
+/// Six classes, one role, that axiom, an edge from each 2 to a 4, and whoever has an edge to a 3 is a 1.
+fn with_a_choice(rt: &impl Abort, alloc: Global) -> Normal
+    ensures atoms { result.atoms ≡ 6 }
+    ensures roles { result.roles ≡ 1 }
+    ensures chains { result.n5 ≡ [] }
+    ensures two { is_named result 2 ≡ true }
+    ensures four { is_named result 4 ≡ true }
+    ensures edge { OneOf (record { atom = 2; role = 0; other = 4 }) result.n2 }
+{
+    let n1 = one_choice(rt, alloc);
+    let named = vec![in alloc; true, true, true, true, true, true].expect(rt, "memory");
+    let n2 = vec![in alloc; triple(2, 4)].expect(rt, "memory");
+    let n3 = vec![in alloc; triple(3, 1)].expect(rt, "memory");
+    Normal {
+        atoms: 6,
+        named: Seq::of(named),
+        roles: 1,
+        n1,
+        n2: Seq::of(n2),
+        n3: Seq::of(n3),
+        n4: Seq::of(Vec::new(alloc)),
+        n5: Seq::of(Vec::new(alloc)),
+    }
+}
+
+/// The index of `with_a_choice`.
+pub fn choice_index(rt: &impl Abort, alloc: Global) -> Index
+    ensures two { is_named result.normal 2 ≡ true }
+    ensures four { is_named result.normal 4 ≡ true }
+    ensures edge { OneOf (record { atom = 2; role = 0; other = 4 }) result.normal.n2 }
+{
+    let normal = with_a_choice(rt, alloc);
+    let closure = Closure::of(alloc, normal.roles, normal.n5.items()).expect(rt, "memory");
+    Index::of(alloc, normal, closure).expect(rt, "memory")
+}

@@ -12,7 +12,7 @@ use std::alloc::Global;
 use std::process::Abort;
 
 /// The document of a text.
-pub(crate) fn document_of(rt: &impl Abort, alloc: Global, text: Vec<u8>) -> Document
+fn document_of(rt: &impl Abort, alloc: Global, text: Vec<u8>) -> Document
     ensures { length result.classes + 6 * nodes result.axioms < 2 ^ 32 - 1 }
 {
     let mut source = MemSource::new(text, 65_536, Vec::new(alloc));
@@ -24,9 +24,11 @@ pub(crate) fn document_of(rt: &impl Abort, alloc: Global, text: Vec<u8>) -> Docu
 /// Whether just the first `count` atoms are classes of the document.
 fn has_named(normal: &Normal, count: usize) -> bool {
     let flags = normal.named.items();
-    let first = flags.iter().take(count).filter(|flag| **flag).count();
-    let all = flags.iter().filter(|flag| **flag).count();
-    first == count && all == count
+    let mut holds = count <= flags.len();
+    for (atom, flag) in flags.iter().enumerate() {
+        holds = holds && *flag == (atom < count);
+    }
+    holds
 }
 
 /// Whether the normal axioms of a text have so many classes of the document, which are their first atoms, and so many roles.
@@ -72,35 +74,18 @@ fn documents_of_every_kind_have_normal_axioms(rt: HostRuntime) {
     }
 }
 
-/// 20,000 axioms of all kinds.
-fn put_axioms(rt: &impl Abort, alloc: Global, text: &mut Vec<u8>) {
-    for i in 0u32..2_500 {
-        let axioms = format!(in alloc;
-            "SubClassOf(:A{i} ObjectSomeValuesFrom(:r ObjectUnionOf(:B{i} ObjectComplementOf(:C{i}))))EquivalentClasses(:D{i} ObjectAllValuesFrom(:s :A{i}))DisjointClasses(:A{i} :B{i} :C{i})DisjointUnion(:E{i} :A{i} :B{i})SubObjectPropertyOf(:p{i} :q)EquivalentObjectProperties(:p{i} :t{i})ObjectPropertyDomain(:p{i} :A{i})ObjectPropertyRange(:p{i} :B{i})"
-        ).expect(rt, "memory");
-        text.extend_from_slice(axioms.as_bytes())
-            .expect(rt, "memory");
-    }
-}
+/// Eight axioms, of all kinds, of a number at each `_`.
+const AXIOMS: &str =
+    "SubClassOf(:A_ ObjectSomeValuesFrom(:r ObjectUnionOf(:B_ ObjectComplementOf(:C_))))EquivalentClasses(:D_ ObjectAllValuesFrom(:s :A_))DisjointClasses(:A_ :B_ :C_)DisjointUnion(:E_ :A_ :B_)SubObjectPropertyOf(:p_ :q)EquivalentObjectProperties(:p_ :t_)ObjectPropertyDomain(:p_ :A_)ObjectPropertyRange(:p_ :B_)";
 
-/// A disjointness of 20,000 classes.
-fn put_disjointness(rt: &impl Abort, alloc: Global, text: &mut Vec<u8>) {
-    text.extend_from_slice(b"DisjointClasses(")
-        .expect(rt, "memory");
-    for i in 0u32..20_000 {
-        let class = format!(in alloc; " :F{i}").expect(rt, "memory");
-        text.extend_from_slice(class.as_bytes())
-            .expect(rt, "memory");
-    }
-    text.push(b')').expect(rt, "memory");
-}
-
-/// 20,000 roles without a pair.
-fn put_roles(rt: &impl Abort, alloc: Global, text: &mut Vec<u8>) {
-    for i in 0u32..20_000 {
-        let axiom = format!(in alloc; "ObjectPropertyDomain(:u{i} :A0)").expect(rt, "memory");
-        text.extend_from_slice(axiom.as_bytes())
-            .expect(rt, "memory");
+/// Appends the form once for each number below `count`, with the number at each `_`.
+fn put_numbered(rt: &impl Abort, alloc: Global, text: &mut Vec<u8>, count: u32, form: &str) {
+    for i in 0..count {
+        let number = format!(in alloc; "{i}").expect(rt, "memory");
+        let part = form.replace(alloc, "_", &number).expect(rt, "memory");
+        drop(number);
+        text.extend_from_slice(part.as_bytes()).expect(rt, "memory");
+        drop(part);
     }
 }
 
@@ -109,9 +94,18 @@ fn large_text(rt: &impl Abort, alloc: Global) -> Vec<u8> {
     let mut text = b"Prefix(:=<x:>)Ontology("
         .to_vec(alloc)
         .expect(rt, "memory");
-    put_axioms(rt, alloc, &mut text);
-    put_disjointness(rt, alloc, &mut text);
-    put_roles(rt, alloc, &mut text);
+    put_numbered(rt, alloc, &mut text, 2_500, AXIOMS);
+    text.extend_from_slice(b"DisjointClasses(")
+        .expect(rt, "memory");
+    put_numbered(rt, alloc, &mut text, 20_000, " :F_");
+    text.push(b')').expect(rt, "memory");
+    put_numbered(
+        rt,
+        alloc,
+        &mut text,
+        20_000,
+        "ObjectPropertyDomain(:u_ :A0)",
+    );
     text.push(b')').expect(rt, "memory");
     text
 }

@@ -27,18 +27,22 @@ fn refusal_of(rt: &impl Abort, alloc: Global, text: &[u8]) -> Option<ReadRefusal
     read(rt, alloc, text, 65_536, 1_000_000).err()
 }
 
-/// The axioms of a document, as they are shown.
-fn axioms_of(rt: &impl Abort, alloc: Global, text: &str) -> String {
+/// Whether the axioms of a document are shown like this.
+fn has_axioms(rt: &impl Abort, alloc: Global, text: &str, expected: &str) -> bool {
     let document = read(rt, alloc, text.as_bytes(), 3, 1_000_000).expect(rt, "a document");
     let shown = format!(in alloc; "{:?}", document.axioms.items()).expect(rt, "memory");
     drop(document);
-    shown
+    let holds = shown.as_str() == expected;
+    drop(shown);
+    holds
 }
 
 /// Whether these axioms, under the prefix `p`, are shown like this.
 fn are_shown(rt: &impl Abort, alloc: Global, axioms: &str, expected: &str) -> bool {
     let text = format!(in alloc; "Prefix(p:=<x:>) Ontology({axioms})").expect(rt, "memory");
-    axioms_of(rt, alloc, text.as_str()).as_str() == expected
+    let holds = has_axioms(rt, alloc, text.as_str(), expected);
+    drop(text);
+    holds
 }
 
 #[test]
@@ -69,48 +73,30 @@ fn each_axiom_is_read_as_the_standard_means_it(rt: HostRuntime) {
         ),
         ("Declaration(ObjectProperty(owl:topObjectProperty))", "[]"),
         ("AnnotationAssertion(p:a _:b _:c)", "[]"),
+        // Each class expression, which A is below.
+        (
+            "SubClassOf(<x:A> ObjectIntersectionOf(<x:B>))",
+            "[SubClass(Name(2), Meet(Items { items: [Name(3)] }))]",
+        ),
+        (
+            "SubClassOf(<x:A> ObjectUnionOf(<x:B> <x:A>))",
+            "[SubClass(Name(2), Join(Items { items: [Name(3), Name(2)] }))]",
+        ),
+        (
+            "SubClassOf(<x:A> ObjectComplementOf(<x:B>))",
+            "[SubClass(Name(2), Minus(Boxed { inner: Name(3) }))]",
+        ),
+        (
+            "SubClassOf(<x:A> ObjectSomeValuesFrom(<x:R> <x:B>))",
+            "[SubClass(Name(2), SomeOf(0, Boxed { inner: Name(3) }))]",
+        ),
+        (
+            "SubClassOf(<x:A> ObjectAllValuesFrom(<x:R> <x:B>))",
+            "[SubClass(Name(2), AllOf(0, Boxed { inner: Name(3) }))]",
+        ),
     ];
     for (axioms, expected) in rows {
         assert!(rt; are_shown(&rt, rt.alloc(), axioms, expected), "{axioms}");
-    }
-}
-
-/// Whether this class expression, which A is below, is shown like this.
-fn is_shown(rt: &impl Abort, alloc: Global, expression: &str, expected: &str) -> bool {
-    let text = format!(in alloc; "Ontology(SubClassOf(<x:A> {expression}))").expect(rt, "memory");
-    let wanted = format!(in alloc; "[SubClass(Name(2), {expected})]").expect(rt, "memory");
-    axioms_of(rt, alloc, text.as_str()).as_str() == wanted.as_str()
-}
-
-#[test]
-fn each_class_expression_is_read_as_the_standard_means_it(rt: HostRuntime) {
-    let rows = [
-        (
-            "ObjectIntersectionOf(<x:B>)",
-            "Meet(Items { items: [Name(3)] })",
-        ),
-        (
-            "ObjectUnionOf(<x:B> <x:A>)",
-            "Join(Items { items: [Name(3), Name(2)] })",
-        ),
-        (
-            "ObjectComplementOf(<x:B>)",
-            "Minus(Boxed { inner: Name(3) })",
-        ),
-        (
-            "ObjectSomeValuesFrom(<x:R> <x:B>)",
-            "SomeOf(0, Boxed { inner: Name(3) })",
-        ),
-        (
-            "ObjectAllValuesFrom(<x:R> <x:B>)",
-            "AllOf(0, Boxed { inner: Name(3) })",
-        ),
-    ];
-    for (expression, expected) in rows {
-        assert!(rt;
-            is_shown(&rt, rt.alloc(), expression, expected),
-            "{expression}"
-        );
     }
 }
 
@@ -120,7 +106,10 @@ fn is_read_with_annotations(rt: &impl Abort, alloc: Global, axiom: &str) -> bool
         "Annotation(Annotation(rdfs:seeAlso _:n) rdfs:label \"a\"@en) Annotation(rdfs:label \"b\"^^xsd:string)";
     let noted = axiom.replace(alloc, "_", note).expect(rt, "memory");
     let text = format!(in alloc; "Ontology(<x:o> {noted})").expect(rt, "memory");
-    refusal_of(rt, alloc, text.as_bytes()).is_none()
+    drop(noted);
+    let holds = refusal_of(rt, alloc, text.as_bytes()).is_none();
+    drop(text);
+    holds
 }
 
 #[test]
@@ -160,22 +149,23 @@ fn front_of(number: u8) -> &'static str {
     }
 }
 
-/// A text with the refused construct of this number behind the front.
-fn with_construct(rt: &impl Abort, alloc: Global, front: &str, number: u8) -> Vec<u8> {
+/// Whether the refused construct of this number is named where it stands behind its front.
+fn is_named(rt: &impl Abort, alloc: Global, number: u8) -> bool {
+    let front = front_of(number);
     let word = word_text(number).unwrap_or(b"");
     let mut text = front.as_bytes().to_vec(alloc).expect(rt, "memory");
     text.extend_from_slice(word).expect(rt, "memory");
     text.extend_from_slice(b"(<x:B>)))").expect(rt, "memory");
-    text
+    let fault = Refusal::Construct(number, front.len() as u64);
+    let holds = has_fault(rt, alloc, text.as_slice(), fault);
+    drop(text);
+    holds
 }
 
 #[test]
 fn each_refused_construct_is_named_with_its_place(rt: HostRuntime) {
     for number in 1u8..=46 {
-        let front = front_of(number);
-        let text = with_construct(&rt, rt.alloc(), front, number);
-        let fault = Refusal::Construct(number, front.len() as u64);
-        assert!(rt; has_fault(&rt, rt.alloc(), &text, fault), "{number}");
+        assert!(rt; is_named(&rt, rt.alloc(), number), "{number}");
     }
 }
 
@@ -223,68 +213,56 @@ fn the_first_fault_is_told_with_its_kind_and_place(rt: HostRuntime) {
     }
 }
 
-/// The front, `levels` times `open`, the middle, `levels` times `close`, and the back.
-fn nested(
+/// What the text is refused with that has the front, `levels` times `open`, the middle, `levels` times `close`, and the back.
+fn refusal_at(
     rt: &impl Abort,
     alloc: Global,
     levels: usize,
-    ends: (&str, &str, &str),
-    open: &str,
-    close: &str,
-) -> String {
-    let (front, middle, back) = ends;
+    (front, middle, back): (&str, &str, &str),
+    (open, close): (&str, &str),
+) -> Option<ReadRefusal> {
     let opened = open.repeat(alloc, levels).expect(rt, "memory");
     let closed = close.repeat(alloc, levels).expect(rt, "memory");
-    format!(in alloc; "{front}{opened}{middle}{closed}{back}").expect(rt, "memory")
+    let text = format!(in alloc; "{front}{opened}{middle}{closed}{back}").expect(rt, "memory");
+    drop(opened);
+    drop(closed);
+    let found = refusal_of(rt, alloc, text.as_bytes());
+    drop(text);
+    found
 }
 
-/// A class expression with so many constructors inside each other.
-fn nested_constructors(rt: &impl Abort, alloc: Global, levels: usize) -> String {
+#[test]
+fn at_most_256_constructors_or_annotations_stand_inside_each_other(rt: HostRuntime) {
+    let alloc = rt.alloc();
     let ends = ("Ontology(SubClassOf(<x:A> ", "<x:B>", "))");
-    nested(rt, alloc, levels, ends, "ObjectComplementOf(", ")")
-}
-
-/// An annotation with so many others inside each other.
-fn nested_annotations(rt: &impl Abort, alloc: Global, levels: usize) -> String {
+    let pair = ("ObjectComplementOf(", ")");
+    assert!(rt; refusal_at(&rt, alloc, 256, ends, pair) == None);
+    let more = Some(ReadRefusal::Refused(Refusal::Depth(4890)));
+    assert!(rt; refusal_at(&rt, alloc, 257, ends, pair) == more);
     let ends = ("Ontology(", "Annotation(rdfs:label \"a\"", "))");
-    nested(rt, alloc, levels, ends, "Annotation(", ") rdfs:label \"a\"")
+    let pair = ("Annotation(", ") rdfs:label \"a\"");
+    assert!(rt; refusal_at(&rt, alloc, 255, ends, pair) == None);
+    let more = Some(ReadRefusal::Refused(Refusal::Depth(2825)));
+    assert!(rt; refusal_at(&rt, alloc, 256, ends, pair) == more);
+}
+
+/// What the text, which comes by four bytes, is refused with by a limit of `most` bytes.
+fn refusal_by(rt: &impl Abort, alloc: Global, text: &str, most: u64) -> Option<ReadRefusal> {
+    read(rt, alloc, text.as_bytes(), 4, most).err()
 }
 
 #[test]
-fn at_most_256_constructors_stand_inside_each_other(rt: HostRuntime) {
-    let most = nested_constructors(&rt, rt.alloc(), 256);
-    assert!(rt; refusal_of(&rt, rt.alloc(), most.as_bytes()).is_none());
-    let more = nested_constructors(&rt, rt.alloc(), 257);
-    assert!(rt; has_fault(&rt, rt.alloc(), more.as_bytes(), Refusal::Depth(4890)));
-}
-
-#[test]
-fn at_most_256_annotations_stand_inside_each_other(rt: HostRuntime) {
-    let most = nested_annotations(&rt, rt.alloc(), 255);
-    assert!(rt; refusal_of(&rt, rt.alloc(), most.as_bytes()).is_none());
-    let more = nested_annotations(&rt, rt.alloc(), 256);
-    assert!(rt; has_fault(&rt, rt.alloc(), more.as_bytes(), Refusal::Depth(2825)));
-}
-
-/// Whether a limit of `most` bytes has the text told as too long, after this many bytes.
-fn is_too_long(rt: &impl Abort, alloc: Global, text: &str, most: u64, came: u64) -> bool {
-    let found = read(rt, alloc, text.as_bytes(), 4, most).err();
-    found == Some(ReadRefusal::Refused(Refusal::TooLong(came)))
-}
-
-#[test]
-fn an_input_past_the_limit_is_too_long_whatever_it_says(rt: HostRuntime) {
+fn an_input_past_the_limit_alone_is_too_long_whatever_it_says(rt: HostRuntime) {
     let text = "Ontology(SubClassOf(<x:A> <x:B>))";
-    assert!(rt; is_too_long(&rt, rt.alloc(), text, 32, 33));
-    assert!(rt; is_too_long(&rt, rt.alloc(), text, 5, 6));
     let faulty = ")Ontology(SubClassOf(<x:A> <x:B>))";
-    assert!(rt; is_too_long(&rt, rt.alloc(), faulty, 5, 6));
-}
-
-#[test]
-fn an_input_as_long_as_the_limit_is_read(rt: HostRuntime) {
-    let text = "Ontology(SubClassOf(<x:A> <x:B>))";
-    assert!(rt; read(&rt, rt.alloc(), text.as_bytes(), 4, 33).is_ok());
+    for (text, most, came) in [(text, 32, 33), (text, 5, 6), (faulty, 5, 6)] {
+        let too_long = Some(ReadRefusal::Refused(Refusal::TooLong(came)));
+        assert!(rt;
+            refusal_by(&rt, rt.alloc(), text, most) == too_long,
+            "{text} {most}"
+        );
+    }
+    assert!(rt; refusal_by(&rt, rt.alloc(), text, 33) == None);
 }
 
 /// A document of every construct, by lines, and below each line what a cut shows: behind `|` the bytes up to the last `-` can't stand
@@ -332,19 +310,15 @@ const EVERY_CONSTRUCT: [(&str, &str); 10] = [
     ),
 ];
 
-/// The text of the document by lines, and what stands below it.
-fn every_construct(rt: &impl Abort, alloc: Global) -> (Vec<u8>, Vec<u8>) {
+/// The lines of the document, or what stands below them, each with this end.
+fn joined(rt: &impl Abort, alloc: Global, is_below: bool, end: u8) -> Vec<u8> {
     let mut text = Vec::new(alloc);
-    let mut marks = Vec::new(alloc);
     for (line, below) in EVERY_CONSTRUCT {
-        text.extend_from_slice(line.as_bytes()).expect(rt, "memory");
-        text.push(b'\n').expect(rt, "memory");
-        marks
-            .extend_from_slice(below.as_bytes())
-            .expect(rt, "memory");
-        marks.push(b'.').expect(rt, "memory");
+        let part = if is_below { below } else { line };
+        text.extend_from_slice(part.as_bytes()).expect(rt, "memory");
+        text.push(end).expect(rt, "memory");
     }
-    (text, marks)
+    text
 }
 
 /// Whether the document is at fault at this place where it ends before the cut.
@@ -355,7 +329,8 @@ fn is_cut(rt: &impl Abort, alloc: Global, text: &[u8], cut: usize, place: usize)
 
 #[test]
 fn a_document_cut_anywhere_is_at_fault_where_the_cut_shows(rt: HostRuntime) {
-    let (text, marks) = every_construct(&rt, rt.alloc());
+    let text = joined(&rt, rt.alloc(), false, b'\n');
+    let marks = joined(&rt, rt.alloc(), true, b'.');
     let mut begun = 0;
     for (cut, mark) in marks.iter().enumerate() {
         if *mark == b'|' {
@@ -366,11 +341,9 @@ fn a_document_cut_anywhere_is_at_fault_where_the_cut_shows(rt: HostRuntime) {
             assert!(rt; is_cut(&rt, rt.alloc(), &text, cut, place), "{cut}");
         }
     }
-}
-
-#[test]
-fn a_document_without_its_last_line_break_is_read(rt: HostRuntime) {
-    let (text, _) = every_construct(&rt, rt.alloc());
+    drop(marks);
+    // Without its last line break it is read.
     let front = text.split_last().expect(&rt, "a document").1;
-    assert!(rt; refusal_of(&rt, rt.alloc(), front).is_none());
+    assert!(rt; refusal_of(&rt, rt.alloc(), front) == None);
+    drop(text);
 }

@@ -18,6 +18,8 @@
 //! many as a maximum, and `Usage` exactly where the words are outside the form. So an accepted document that reaches no maximum is
 //! answered where no fault rose, unless memory runs out: of `Memory` alone the contracts name no cause. A trial leaves the input as it
 //! was, and ends with neither `Refused` nor `ReadFault`.
+//!
+//! Its tests are in `cd_runs`.
 #![tactic(auto)]
 
 mod answer;
@@ -35,10 +37,3 @@ pub use laws::{
     answer_is_restated, has_one_text, is_below_in_every_structure, same_have_same_answer,
 };
 pub use status::Status;
-
-#[cfg(test)]
-mod examples;
-#[cfg(test)]
-mod tests;
-#[cfg(test)]
-mod zoo;

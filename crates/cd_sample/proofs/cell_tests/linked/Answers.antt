@@ -1,6 +1,6 @@
 use Rattle.std.proofs.Common.{[], ◌∷◌, refl, sym, subst, arith}
 use Rattle.cd_base.specs.Keys.{plain}
-use Rattle.cd_clause.specs.Derivations.{from_named}
+use Rattle.cd_clause.proofs.Derive.{from_named}
 use Rattle.cd_sample.proofs.WorkedDerivations.{link_justified}
 use Rattle.cd_context.specs.declared.facts.Note.{Note}
 use Rattle.cd_cell.specs.Cells.{CellState, IsLawfulNote}

@@ -1,4 +1,4 @@
-use Rattle.cd_clause.specs.Derivations.{from_named}
+use Rattle.cd_clause.proofs.Derive.{from_named}
 use Rattle.cd_sample.proofs.context_tests.begin.Goals as goal
 
 pub begin-requires : goal.begin-requires

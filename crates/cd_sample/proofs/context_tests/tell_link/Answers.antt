@@ -1,5 +1,5 @@
 use Rattle.std.proofs.Common.{refl}
-use Rattle.cd_clause.specs.Derivations.{from_named}
+use Rattle.cd_clause.proofs.Derive.{from_named}
 use Rattle.cd_sample.proofs.WorkedDerivations.{link_justified}
 use Rattle.cd_sample.proofs.context_tests.tell_link.Goals as goal
 

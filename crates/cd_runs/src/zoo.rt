@@ -1,6 +1,5 @@
 //! A document as the OWL API writes it, through the whole command in reads of a hundred bytes. Its text was written by hand.
-use crate::Status;
-use crate::tests::{Ended, classify_from, has_written, sink_of};
+use crate::commands::{classify_from, has_ended, sink_of};
 use cd_base::Limits;
 use cd_grammar::read_document;
 use cd_io::MemSource;
@@ -87,16 +86,14 @@ fn zoo(rt: &impl Abort, alloc: Global, fails: Vec<u64>) -> MemSource {
     MemSource::new(text.into_bytes(), 100, fails)
 }
 
-/// How the command ends over it, and what it puts on its sinks.
-fn classified(rt: &impl Abort, alloc: Global, fails: Vec<u64>) -> Ended {
+/// Whether the command ends so over it, with these reads failing.
+fn ends(rt: &impl Abort, alloc: Global, fails: Vec<u64>, end: (u8, &str, &str)) -> bool {
     let source = zoo(rt, alloc, fails);
-    classify_from(
-        rt,
-        alloc,
-        source,
-        sink_of(rt, alloc, 1_000),
-        &Limits::standard(),
-    )
+    let out = sink_of(rt, alloc, 1_000);
+    let ran = classify_from(rt, alloc, source, out, &Limits::standard());
+    let holds = has_ended(&ran, end);
+    drop(ran);
+    holds
 }
 
 #[test]
@@ -114,21 +111,14 @@ fn a_document_as_the_owl_api_writes_it_is_read(rt: HostRuntime) {
 
 #[test]
 fn a_document_as_the_owl_api_writes_it_is_classified(rt: HostRuntime) {
-    let ran = classified(&rt, rt.alloc(), Vec::new(rt.alloc()));
-    assert!(rt; ran.status == Status::Done);
     let expected = joined(&rt, rt.alloc(), &ITS_LINES);
-    assert!(rt; has_written(&ran, expected.as_str(), ""));
-    drop(ran);
+    let fails = Vec::new(rt.alloc());
+    assert!(rt; ends(&rt, rt.alloc(), fails, (0, expected.as_str(), "")));
+    drop(expected);
 }
 
 #[test]
 fn a_failing_read_in_the_midst_of_it_leaves_no_text(rt: HostRuntime) {
-    let ran = classified(
-        &rt,
-        rt.alloc(),
-        vec![in rt.alloc(); 2].expect(&rt, "memory"),
-    );
-    assert_eq!(rt; ran.status.code(), 4);
-    assert!(rt; has_written(&ran, "", "condor: reading failed\n"));
-    drop(ran);
+    let fails = vec![in rt.alloc(); 2].expect(&rt, "memory");
+    assert!(rt; ends(&rt, rt.alloc(), fails, (4, "", "condor: reading failed\n")));
 }

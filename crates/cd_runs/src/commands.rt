@@ -2,9 +2,9 @@
 //! What has many parts is let go of by `drop`, which the prover takes as one step.
 
 use crate::examples::{EXAMPLES, SMALL};
-use crate::{Status, classify_here, run};
 use cd_base::{LimitKind, Limits};
 use cd_io::{MemSink, MemSource, Source};
+use cd_top::{Status, classify_here, run};
 use std::alloc::Global;
 use std::process::Abort;
 
@@ -78,22 +78,35 @@ fn run_with_room(rt: &impl Abort, alloc: Global, words: &str, input: &str, room:
     }
 }
 
-/// Runs the command words, given as one text, on an input that comes at once, with ample room.
-fn run_over_memory(rt: &impl Abort, alloc: Global, words: &str, input: &str) -> Ended {
-    run_with_room(rt, alloc, words, input, 1_000)
+/// How a run ends: with this code, and these texts on its sinks.
+type End<'a> = (u8, &'a str, &'a str);
+
+/// Whether a run has ended so, and put nothing else on its sinks.
+pub(crate) fn has_ended(ran: &Ended, (code, out, notes): End<'_>) -> bool {
+    ran.status.code() == code
+        && ran.out.bytes() == out.as_bytes()
+        && ran.notes.bytes() == notes.as_bytes()
 }
 
-/// Whether a run has put these texts on its sinks, and nothing else.
-pub(crate) fn has_written(ran: &Ended, out: &str, notes: &str) -> bool {
-    ran.out.bytes() == out.as_bytes() && ran.notes.bytes() == notes.as_bytes()
+/// Whether the command words end so over an input, with ample room.
+fn ends(rt: &impl Abort, alloc: Global, (words, input): (&str, &str), end: End<'_>) -> bool {
+    let ran = run_with_room(rt, alloc, words, input, 1_000);
+    let holds = has_ended(&ran, end);
+    drop(ran);
+    holds
+}
+
+/// Whether the command words end so, and leave the input as it was.
+fn reads_nothing(rt: &impl Abort, alloc: Global, words: &str, end: End<'_>) -> bool {
+    let ran = run_with_room(rt, alloc, words, ONE_SUBSUMPTION, 1_000);
+    let holds = has_ended(&ran, end) && ran.unread == ONE_SUBSUMPTION.len();
+    drop(ran);
+    holds
 }
 
 /// Whether the command answers the input with this text, and says nothing else.
 fn is_answered(rt: &impl Abort, alloc: Global, input: &str, expected: &str) -> bool {
-    let ran = run_over_memory(rt, alloc, "classify", input);
-    let holds = ran.status == Status::Done && has_written(&ran, expected, "");
-    drop(ran);
-    holds
+    ends(rt, alloc, ("classify", input), (0, expected, ""))
 }
 
 #[test]
@@ -142,27 +155,22 @@ fn real_syntax_gives_the_taxonomy_of_what_it_says(rt: HostRuntime) {
     }
 }
 
+/// Whether the command answers the input with this text, and this text with the same text.
+fn is_settled(rt: &impl Abort, alloc: Global, input: &str, expected: &str) -> bool {
+    is_answered(rt, alloc, input, expected) && is_answered(rt, alloc, expected, expected)
+}
+
 #[test]
-fn examples_have_their_taxonomies(rt: HostRuntime) {
+fn examples_have_their_taxonomies_and_so_have_these(rt: HostRuntime) {
     for (input, expected) in EXAMPLES {
-        assert!(rt; is_answered(&rt, rt.alloc(), input, expected), "{input}");
+        assert!(rt; is_settled(&rt, rt.alloc(), input, expected), "{input}");
     }
 }
 
 #[test]
 fn small_ontologies_have_the_taxonomies_that_all_their_interpretations_give(rt: HostRuntime) {
     for (input, expected) in SMALL {
-        assert!(rt; is_answered(&rt, rt.alloc(), input, expected), "{input}");
-    }
-}
-
-#[test]
-fn the_answer_to_an_answer_is_the_same_text(rt: HostRuntime) {
-    for (_, text) in SMALL {
-        assert!(rt; is_answered(&rt, rt.alloc(), text, text), "{text}");
-    }
-    for (_, text) in EXAMPLES {
-        assert!(rt; is_answered(&rt, rt.alloc(), text, text), "{text}");
+        assert!(rt; is_settled(&rt, rt.alloc(), input, expected), "{input}");
     }
 }
 
@@ -176,9 +184,90 @@ fn nested_text(rt: &impl Abort, alloc: Global, depth: usize) -> String {
 }
 
 #[test]
-fn the_deepest_nesting_is_answered(rt: HostRuntime) {
-    let text = nested_text(&rt, rt.alloc(), 256);
-    assert!(rt; is_answered(&rt, rt.alloc(), text.as_str(), ITS_TEXT));
+fn the_deepest_nesting_is_answered_and_a_deeper_one_is_refused(rt: HostRuntime) {
+    let most = nested_text(&rt, rt.alloc(), 256);
+    assert!(rt; is_answered(&rt, rt.alloc(), most.as_str(), ITS_TEXT));
+    drop(most);
+    let more = nested_text(&rt, rt.alloc(), 257);
+    let line = "condor: nesting deeper than 256 at byte 4890\n";
+    assert!(rt; ends(&rt, rt.alloc(), ("classify", more.as_str()), (1, "", line)));
+    drop(more);
+}
+
+#[test]
+fn a_refused_document_names_what_is_wrong_and_where(rt: HostRuntime) {
+    for (input, line) in [
+        (
+            "Ontology(SubClassOf(<x:A> ObjectInverseOf(<x:R>)))",
+            "condor: construct ObjectInverseOf at byte 26\n",
+        ),
+        (
+            "Ontology(SubClassOf(p:A <x:B>))",
+            "condor: prefix at byte 20\n",
+        ),
+        (
+            "Ontology(SubClassOf(<x:A> <x:B>)",
+            "condor: syntax at byte 32\n",
+        ),
+        ("Prefix(owl:=<x:>)Ontology()", "condor: prefix at byte 12\n"),
+        (
+            "Ontology(Annotation(rdfs:label \"a)",
+            "condor: syntax at byte 31\n",
+        ),
+        (
+            "Ontology(SubObjectPropertyOf(<x:R> owl:topObjectProperty))",
+            "condor: construct owl:topObjectProperty at byte 35\n",
+        ),
+    ] {
+        assert!(rt;
+            ends(&rt, rt.alloc(), ("classify", input), (1, "", line)),
+            "{input}"
+        );
+    }
+}
+
+#[test]
+fn other_words_read_nothing_and_name_the_usage(rt: HostRuntime) {
+    for words in [
+        "",
+        "classify classify",
+        "Classify",
+        "--help",
+        "classify --workers 0",
+        "classify --workers 2 --workers 2",
+        "trial",
+        "trial 0",
+        "trial 20001",
+    ] {
+        assert!(rt;
+            reads_nothing(&rt, rt.alloc(), words, (2, "", USAGE)),
+            "{words}"
+        );
+    }
+}
+
+#[test]
+fn a_trial_counts_what_its_document_entails_and_reads_nothing(rt: HostRuntime) {
+    // n levels have 4n + 4 classes in 3n + 4 groups, n classes that can have no member, and 4n + 1 direct superclasses.
+    for (words, expected) in [
+        (
+            "trial 3",
+            "names 16\ngroups 13\nunsatisfiable 3\nlinks 13\n",
+        ),
+        (
+            "--cells=1 trial --max-contexts 4000000 3 --max-facts=40000000",
+            "names 16\ngroups 13\nunsatisfiable 3\nlinks 13\n",
+        ),
+        (
+            "trial 1000",
+            "names 4004\ngroups 3004\nunsatisfiable 1000\nlinks 4001\n",
+        ),
+    ] {
+        assert!(rt;
+            reads_nothing(&rt, rt.alloc(), words, (0, expected, "")),
+            "{words}"
+        );
+    }
 }
 
 /// Three contexts of classes and one of an existential, at least.
@@ -223,29 +312,39 @@ fn limit_line(rt: &impl Abort, alloc: Global, kind: LimitKind, count: u64) -> St
 }
 
 /// Whether a run has reached a maximum of this kind, at a count of `least` or more, and has written its line alone.
-fn has_reached(rt: &impl Abort, alloc: Global, ran: Ended, kind: LimitKind, least: u64) -> bool {
+fn has_reached(rt: &impl Abort, alloc: Global, ran: &Ended, kind: LimitKind, least: u64) -> bool {
     let Status::Limit(reached, count) = ran.status else {
-        drop(ran);
         return false;
     };
     let line = limit_line(rt, alloc, kind, count);
-    let told = ran.status.code() == 3 && has_written(&ran, "", line.as_str());
-    drop(ran);
+    let told = has_ended(ran, (3, "", line.as_str()));
+    drop(line);
     told && reached == kind && least <= count
 }
 
-#[test]
-fn a_maximum_of_contexts_that_is_reached_is_told_with_its_count(rt: HostRuntime) {
-    let fourth = run_with_maxima(&rt, rt.alloc(), 4, 1_000);
-    assert!(rt; has_reached(&rt, rt.alloc(), fourth, LimitKind::Contexts, 4));
-    let first = run_with_maxima(&rt, rt.alloc(), 1, 1);
-    assert!(rt; has_reached(&rt, rt.alloc(), first, LimitKind::Contexts, 1));
+/// Whether a run over `SOME_OF_A_UNION` with these maxima reaches this one, at a count of `least` or more.
+fn reaches(
+    rt: &impl Abort,
+    alloc: Global,
+    (max_contexts, max_facts): (u64, u64),
+    kind: LimitKind,
+    least: u64,
+) -> bool {
+    let ran = run_with_maxima(rt, alloc, max_contexts, max_facts);
+    let holds = has_reached(rt, alloc, &ran, kind, least);
+    drop(ran);
+    holds
 }
 
 #[test]
-fn a_maximum_of_facts_that_is_reached_is_told_with_its_count(rt: HostRuntime) {
-    let fifth = run_with_maxima(&rt, rt.alloc(), 1_000, 5);
-    assert!(rt; has_reached(&rt, rt.alloc(), fifth, LimitKind::Facts, 5));
+fn a_maximum_that_is_reached_is_told_with_its_count(rt: HostRuntime) {
+    for (maxima, kind, least) in [
+        ((4, 1_000), LimitKind::Contexts, 4),
+        ((1, 1), LimitKind::Contexts, 1),
+        ((1_000, 5), LimitKind::Facts, 5),
+    ] {
+        assert!(rt; reaches(&rt, rt.alloc(), maxima, kind, least), "{least}");
+    }
 }
 
 #[test]
@@ -255,110 +354,12 @@ fn a_run_that_reaches_no_maximum_is_done(rt: HostRuntime) {
     drop(ran);
 }
 
-/// Whether the command refuses the input with this line, and answers nothing.
-fn is_refused(rt: &impl Abort, alloc: Global, input: &str, line: &str) -> bool {
-    let ran = run_over_memory(rt, alloc, "classify", input);
-    let holds = ran.status.code() == 1 && has_written(&ran, "", line);
-    drop(ran);
-    holds
-}
-
-#[test]
-fn a_refused_document_names_what_is_wrong_and_where(rt: HostRuntime) {
-    for (input, line) in [
-        (
-            "Ontology(SubClassOf(<x:A> ObjectInverseOf(<x:R>)))",
-            "condor: construct ObjectInverseOf at byte 26\n",
-        ),
-        (
-            "Ontology(SubClassOf(p:A <x:B>))",
-            "condor: prefix at byte 20\n",
-        ),
-        (
-            "Ontology(SubClassOf(<x:A> <x:B>)",
-            "condor: syntax at byte 32\n",
-        ),
-        ("Prefix(owl:=<x:>)Ontology()", "condor: prefix at byte 12\n"),
-        (
-            "Ontology(Annotation(rdfs:label \"a)",
-            "condor: syntax at byte 31\n",
-        ),
-        (
-            "Ontology(SubObjectPropertyOf(<x:R> owl:topObjectProperty))",
-            "condor: construct owl:topObjectProperty at byte 35\n",
-        ),
-    ] {
-        assert!(rt; is_refused(&rt, rt.alloc(), input, line), "{input}");
-    }
-}
-
-#[test]
-fn a_document_that_is_nested_too_deeply_is_refused(rt: HostRuntime) {
-    let deep = nested_text(&rt, rt.alloc(), 257);
-    let line = "condor: nesting deeper than 256 at byte 4890\n";
-    assert!(rt; is_refused(&rt, rt.alloc(), deep.as_str(), line));
-}
-
-/// Whether the words name the usage alone, and leave the input as it was.
-fn is_usage(rt: &impl Abort, alloc: Global, words: &str) -> bool {
-    let ran = run_over_memory(rt, alloc, words, ONE_SUBSUMPTION);
-    let holds = ran.status.code() == 2 && has_written(&ran, "", USAGE);
-    let unread = ran.unread;
-    drop(ran);
-    holds && unread == ONE_SUBSUMPTION.len()
-}
-
-#[test]
-fn other_words_read_nothing_and_name_the_usage(rt: HostRuntime) {
-    for words in [
-        "",
-        "classify classify",
-        "Classify",
-        "--help",
-        "classify --workers 0",
-        "classify --workers 2 --workers 2",
-        "trial",
-        "trial 0",
-        "trial 20001",
-    ] {
-        assert!(rt; is_usage(&rt, rt.alloc(), words), "{words}");
-    }
-}
-
-/// Whether the words give this text and nothing else, and leave the input as it was.
-fn is_tried(rt: &impl Abort, alloc: Global, words: &str, expected: &str) -> bool {
-    let ran = run_over_memory(rt, alloc, words, ONE_SUBSUMPTION);
-    let holds = ran.status == Status::Done && has_written(&ran, expected, "");
-    let unread = ran.unread;
-    drop(ran);
-    holds && unread == ONE_SUBSUMPTION.len()
-}
-
-#[test]
-fn a_trial_counts_what_its_document_entails_and_reads_nothing(rt: HostRuntime) {
-    // n levels have 4n + 4 classes in 3n + 4 groups, n classes that can have no member, and 4n + 1 direct superclasses.
-    for (words, expected) in [
-        (
-            "trial 3",
-            "names 16\ngroups 13\nunsatisfiable 3\nlinks 13\n",
-        ),
-        (
-            "--cells=1 trial --max-contexts 4000000 3 --max-facts=40000000",
-            "names 16\ngroups 13\nunsatisfiable 3\nlinks 13\n",
-        ),
-        (
-            "trial 1000",
-            "names 4004\ngroups 3004\nunsatisfiable 1000\nlinks 4001\n",
-        ),
-    ] {
-        assert!(rt; is_tried(&rt, rt.alloc(), words, expected), "{words}");
-    }
-}
-
 /// Whether the words give nothing but the line of a maximum of contexts, with a count of `least` or more.
 fn stops_at_contexts(rt: &impl Abort, alloc: Global, words: &str, least: u64) -> bool {
-    let ran = run_over_memory(rt, alloc, words, SOME_OF_A_UNION);
-    has_reached(rt, alloc, ran, LimitKind::Contexts, least)
+    let ran = run_with_room(rt, alloc, words, SOME_OF_A_UNION, 1_000);
+    let holds = has_reached(rt, alloc, &ran, LimitKind::Contexts, least);
+    drop(ran);
+    holds
 }
 
 #[test]
@@ -378,25 +379,22 @@ fn failing_sink(rt: &impl Abort, alloc: Global, piece: usize, number: u64) -> Me
     MemSink::new(alloc, 1_000, piece.max(1), fails).expect(rt, "memory")
 }
 
-#[test]
-fn a_failing_write_is_told_and_leaves_a_front(rt: HostRuntime) {
-    // The third write fails after two of five bytes each.
-    let source = source_of(&rt, rt.alloc(), ONE_SUBSUMPTION, 10);
-    let out = failing_sink(&rt, rt.alloc(), 5, 2);
-    let ran = classify_from(&rt, rt.alloc(), source, out, &Limits::standard());
-    assert_eq!(rt; ran.status.code(), 5);
-    assert!(rt; has_written(&ran, "Ontology(\n", "condor: writing failed\n"));
+/// Whether a run, where the write of this number of `piece` bytes each fails, tells that and leaves this of its text.
+fn leaves(rt: &impl Abort, alloc: Global, piece: usize, number: u64, front: &str) -> bool {
+    let source = source_of(rt, alloc, ONE_SUBSUMPTION, 10);
+    let out = failing_sink(rt, alloc, piece, number);
+    let ran = classify_from(rt, alloc, source, out, &Limits::standard());
+    let holds = has_ended(&ran, (5, front, "condor: writing failed\n"));
     drop(ran);
+    holds
 }
 
 #[test]
-fn a_text_that_is_written_whole_but_not_handed_on_is_told(rt: HostRuntime) {
-    let source = source_of(&rt, rt.alloc(), ONE_SUBSUMPTION, 10);
-    let out = failing_sink(&rt, rt.alloc(), 1_000, 1);
-    let ran = classify_from(&rt, rt.alloc(), source, out, &Limits::standard());
-    assert_eq!(rt; ran.status.code(), 5);
-    assert!(rt; ran.out.bytes() == ITS_TEXT.as_bytes());
-    drop(ran);
+fn a_failing_write_is_told_and_leaves_a_front(rt: HostRuntime) {
+    // The third write fails after two of five bytes each.
+    assert!(rt; leaves(&rt, rt.alloc(), 5, 2, "Ontology(\n"));
+    // A text that is written whole but not handed on is told too.
+    assert!(rt; leaves(&rt, rt.alloc(), 1_000, 1, ITS_TEXT));
 }
 
 /// Whether the words, where every note fails, end with this code and text, and leave so many bytes of the input.
@@ -404,21 +402,19 @@ fn ends_without_notes(
     rt: &impl Abort,
     alloc: Global,
     words: &str,
-    code: u8,
-    expected: &str,
+    (code, out): (u8, &str),
     unread: usize,
 ) -> bool {
     let ran = run_with_room(rt, alloc, words, ONE_SUBSUMPTION, 0);
-    let ended = ran.status.code() == code && ran.unread == unread;
-    let holds = ended && has_written(&ran, expected, "");
+    let holds = has_ended(&ran, (code, out, "")) && ran.unread == unread;
     drop(ran);
     holds
 }
 
 #[test]
 fn failing_notes_leave_the_status_as_it_is(rt: HostRuntime) {
-    assert!(rt; ends_without_notes(&rt, rt.alloc(), "classify", 0, ITS_TEXT, 0));
-    assert!(rt; ends_without_notes(&rt, rt.alloc(), "classify classify", 2, "", 33));
+    assert!(rt; ends_without_notes(&rt, rt.alloc(), "classify", (0, ITS_TEXT), 0));
+    assert!(rt; ends_without_notes(&rt, rt.alloc(), "classify classify", (2, ""), 33));
 }
 
 /// Whether a run whose limit is `most` bytes ends with this code and this line.
