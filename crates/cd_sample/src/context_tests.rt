@@ -92,15 +92,6 @@ fn clauses_that_are_of_use_to_each_other_meet(rt: HostRuntime) {
     drop(index);
 }
 
-#[test]
-fn each_existential_that_pairs_give_is_told(rt: HostRuntime) {
-    let index = universal_index(&rt, rt.alloc());
-    let notes = notes_when_begun(&rt, rt.alloc(), &index);
-    assert_eq!(rt; notes.len(), 2);
-    drop(notes);
-    drop(index);
-}
-
 /// The key of 4.
 fn four(alloc: Global) -> Key
     ensures { result ≡ plain 4 ∷ [] }
@@ -149,11 +140,32 @@ fn are_the_sure_of_four(alloc: Global, notes: &[Note]) -> bool {
     are_only(notes, Note { key, fact })
 }
 
-/// Whether the notes are that the context of 4 has a clause with 3, for the context of 2, and no other.
-fn are_the_back_of_three(alloc: Global, notes: &[Note]) -> bool {
+/// Whether the notes are that the context of 4 has a clause whose greatest element is 5, for the context of 2, and no other.
+fn are_the_back_of_five(alloc: Global, notes: &[Note]) -> bool {
     let key = two(alloc);
-    let fact = Fact::Back(Role(0), four(alloc), Atom(3));
+    let fact = Fact::Back(Role(0), four(alloc), Atom(5));
     are_only(notes, Note { key, fact })
+}
+
+/// The key of 4 and 5.
+fn four_and_five(rt: &impl Abort, alloc: Global) -> Key
+    ensures { result ≡ plain 4 ∷ plain 5 ∷ [] }
+{
+    let five = Lit {
+        atom: Atom(5),
+        negated: false,
+    };
+    four(alloc).with(five).expect(rt, "memory")
+}
+
+#[test]
+fn the_existential_that_pairs_give_is_told_and_what_it_covers_is_not(rt: HostRuntime) {
+    let index = universal_index(&rt, rt.alloc());
+    let notes = notes_when_begun(&rt, rt.alloc(), &index);
+    let key = four_and_five(&rt, rt.alloc());
+    assert!(rt; are_the_link_to(rt.alloc(), notes.as_slice(), key));
+    drop(notes);
+    drop(index);
 }
 
 /// Tells the context of 2 that the context of 4 has the class 4.
@@ -376,7 +388,7 @@ fn a_link_is_answered_by_a_sure_for_the_atom_of_use(rt: HostRuntime) {
     drop(index);
 }
 
-/// Whether the link makes the context tell 2 that it has the class 3 in some case, and nothing else.
+/// Whether the link makes the context tell 2 that it has the class 5 in some case, and nothing else.
 fn tells_of_its_case(rt: &impl Abort, alloc: Global, index: &Index, context: &mut Context) -> bool
     requires two { is_named index.now.normal 2 ≡ true }
     requires edge { OneOf (record { atom = 2; role = 0; other = 4 }) index.now.normal.n2 }
@@ -386,13 +398,13 @@ fn tells_of_its_case(rt: &impl Abort, alloc: Global, index: &Index, context: &mu
 {
     let mut out = Vec::new(alloc);
     tell_link(rt, alloc, index, context, &mut out);
-    let told = are_the_back_of_three(alloc, out.as_slice());
+    let told = are_the_back_of_five(alloc, out.as_slice());
     drop(out);
     told
 }
 
 #[test]
-fn a_link_is_answered_by_a_back_for_an_atom_that_is_not_alone(rt: HostRuntime) {
+fn a_link_is_answered_by_a_back_for_the_greatest_atom_of_two(rt: HostRuntime) {
     let index = choice_index(&rt, rt.alloc());
     let mut context = begun(&rt, rt.alloc(), &index, 4);
     assert!(rt; tells_of_its_case(&rt, rt.alloc(), &index, &mut context));

@@ -29,8 +29,8 @@
 //! ```
 //!
 //! A second one (`universal_index`) has `-> 0`, `0 2 -> 3`, the edge from each 2 to a 4, and that every edge from a 3 goes to a 5: clauses of
-//! the context of 2 have to meet in pairs. In a third one (`choice_index`) each 4 is a 3 or a 5, so that the context of 4 has the class 3 in
-//! one case.
+//! the context of 2 have to meet in pairs. In a third one (`choice_index`) each 4 is a 3 or a 5, so that the context of 4 has one clause of
+//! both, whose greatest element is 5.
 //!
 //! The tests are a file for each crate whose calls they make: `index_tests`, `rules_tests`, `context_tests`, `cell_tests`, and `core_tests`
 //! for a core over cells. `numbers_tests` has cores over other cells (`numbers`), which are no part of a reasoner: what a core does to its

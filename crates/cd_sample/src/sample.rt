@@ -159,7 +159,7 @@ fn one_choice(rt: &impl Abort, alloc: Global) -> Seq<Conj>
     Seq::of(vec![in alloc; choice].expect(rt, "memory"))
 }
 
-/// Six classes, one role, that axiom, an edge from each 2 to a 4, and whoever has an edge to a 3 is a 1.
+/// Six classes, one role, that axiom, an edge from each 2 to a 4, and whoever has an edge to a 3 or to a 5 is a 1.
 fn with_a_choice(rt: &impl Abort, alloc: Global) -> Normal
     ensures atoms { result.atoms ≡ 6 }
     ensures roles { result.roles ≡ 1 }
@@ -171,7 +171,7 @@ fn with_a_choice(rt: &impl Abort, alloc: Global) -> Normal
     let n1 = one_choice(rt, alloc);
     let named = vec![in alloc; true, true, true, true, true, true].expect(rt, "memory");
     let n2 = vec![in alloc; triple(2, 4)].expect(rt, "memory");
-    let n3 = vec![in alloc; triple(3, 1)].expect(rt, "memory");
+    let n3 = vec![in alloc; triple(3, 1), triple(5, 1)].expect(rt, "memory");
     Normal {
         atoms: 6,
         named: Seq::of(named),
