@@ -1,8 +1,8 @@
 //! Small clauses. Expected values are written by hand.
 //! What elements are made of stands in tables, and elements are made of it in one place. What has many parts is let go of by `drop`, which
 //! the prover takes as one step.
-use cd_base::{Atom, Key, Normal, Role, Seq};
-use cd_clause::{Clause, Elem, eligible};
+use cd_base::{Atom, Key, Lit, Normal, Role, Seq};
+use cd_clause::{Clause, Elem, greatest};
 use std::alloc::Global;
 use std::process::Abort;
 
@@ -181,12 +181,13 @@ fn a_clause_covers_another_exactly_where_that_has_all_its_elements_or_weaker_one
     }
 }
 
-/// Four classes of the document, two atoms beside them, and no axioms.
-fn six_atoms(rt: &impl Abort, alloc: Global) -> Normal {
+/// Four classes of the document, two atoms beside them, with these ranks, and no axioms.
+fn six_atoms(rt: &impl Abort, alloc: Global, ranks: &[u32]) -> Normal {
     let named = vec![in alloc; true, true, true, true, false, false].expect(rt, "memory");
     Normal {
         atoms: 6,
         named: Seq::of(named),
+        ranks: Seq::of(ranks.to_vec(alloc).expect(rt, "memory")),
         roles: 2,
         n1: Seq::of(Vec::new(alloc)),
         n2: Seq::of(Vec::new(alloc)),
@@ -196,39 +197,86 @@ fn six_atoms(rt: &impl Abort, alloc: Global) -> Normal {
     }
 }
 
-/// Whether exactly these elements of the clause, in its order, are eligible there.
-fn has_eligible(normal: &Normal, clause: &Clause, wanted: &[bool]) -> bool {
-    let mut holds = clause.elems().len() == wanted.len();
-    for i in 0..clause.elems().len() {
-        holds = holds && wanted.get(i) == Some(&eligible(clause, i, normal));
-    }
-    holds
-}
-
-/// Whether exactly these elements, which stand in the clause's order, are eligible in their clause.
-fn are_eligible(rt: &impl Abort, alloc: Global, parts: &[Part], wanted: &[bool]) -> bool {
-    let normal = six_atoms(rt, alloc);
-    let clause = clause(rt, alloc, parts);
-    let holds = has_eligible(&normal, &clause, wanted);
-    drop(clause);
+/// Whether the greatest element of the clause, where the atoms have these ranks, is the one at this place.
+fn has_greatest(
+    rt: &impl Abort,
+    alloc: Global,
+    ranks: &[u32],
+    clause: &Clause,
+    place: Option<usize>,
+) -> bool {
+    let normal = six_atoms(rt, alloc, ranks);
+    let holds = greatest(clause, &normal) == place;
     drop(normal);
     holds
 }
 
 #[test]
 fn what_is_greatest_in_the_order_of_the_calculus_is_eligible(rt: HostRuntime) {
-    let table: [(&[Part], &[bool]); 6] = [
-        // The greatest of named atoms is eligible alone.
-        (&[(None, 2), (None, 3)], &[false, true]),
-        // The greatest of the other atoms is eligible alone.
-        (&[(None, 2), (None, 4)], &[false, true]),
-        (&[(None, 4), (None, 5)], &[false, true]),
-        // The greatest existential is eligible alone.
-        (&[(None, 2), (None, 4), (Some(0), 1)], &[false, false, true]),
-        (&[(Some(0), 1), (Some(0), 2)], &[false, true]),
-        (&[(Some(0), 2), (Some(1), 1)], &[false, true]),
+    let table: [(&[u32], &[Part], Option<usize>); 10] = [
+        // Of atoms the rank decides, and then the number.
+        (&[0, 0, 7, 3, 1, 1], &[(None, 2), (None, 3)], Some(0)),
+        (
+            &[0, 0, 3, 7, 1, 1],
+            &[(None, 2), (None, 3), (None, 4)],
+            Some(1),
+        ),
+        (&[0, 0, 5, 5, 1, 1], &[(None, 2), (None, 3)], Some(1)),
+        (&[], &[(None, 2), (None, 4)], Some(1)),
+        // An atom that no rank is told of has rank 0.
+        (&[0, 0, 1], &[(None, 2), (None, 5)], Some(0)),
+        // An existential is above each atom.
+        (
+            &[9, 0, 9, 9, 9, 9],
+            &[(None, 2), (None, 4), (Some(0), 1)],
+            Some(2),
+        ),
+        // Of existentials the role decides, and then the key, by the numbers of its atoms.
+        (&[0, 0, 9], &[(Some(0), 2), (Some(1), 1)], Some(1)),
+        (&[0, 9, 0], &[(Some(0), 1), (Some(0), 2)], Some(1)),
+        (&[], &[(Some(0), 1)], Some(0)),
+        // The empty clause has none.
+        (&[], &[], None),
     ];
-    for (row, (parts, wanted)) in table.iter().enumerate() {
-        assert!(rt; are_eligible(&rt, rt.alloc(), parts, wanted), "row {row}");
+    for (row, (ranks, parts, place)) in table.iter().enumerate() {
+        let made = clause(&rt, rt.alloc(), parts);
+        assert!(rt;
+            has_greatest(&rt, rt.alloc(), ranks, &made, *place),
+            "row {row}"
+        );
+        drop(made);
     }
+}
+
+/// Whether the last element of the clause is made of this.
+fn ends_in(clause: &Clause, part: Part) -> bool {
+    match clause.elems() {
+        [.., last] => is_of(last, part),
+        [] => false,
+    }
+}
+
+/// The existential to the key of 1, and to that of 1 and 2.
+fn two_keys(rt: &impl Abort, alloc: Global) -> Clause {
+    let mut elems = Vec::new(alloc);
+    let small = Key::single(alloc, Atom(1));
+    let two = Lit {
+        atom: Atom(2),
+        negated: false,
+    };
+    let large = small.with(two).expect(rt, "memory");
+    elems.push(Elem::Exist(Role(0), small)).expect(rt, "memory");
+    elems.push(Elem::Exist(Role(0), large)).expect(rt, "memory");
+    let clause = Clause::of(alloc, elems.as_slice()).expect(rt, "memory");
+    drop(elems);
+    clause
+}
+
+#[test]
+fn the_existential_to_a_larger_key_is_lower(rt: HostRuntime) {
+    let clause = two_keys(&rt, rt.alloc());
+    assert!(rt; clause.elems().len() == 2);
+    assert!(rt; ends_in(&clause, (Some(0), 1)));
+    assert!(rt; has_greatest(&rt, rt.alloc(), &[], &clause, Some(1)));
+    drop(clause);
 }

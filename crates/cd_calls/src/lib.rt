@@ -1,7 +1,7 @@
 //! The tests of the calls of the low crates, a file for each crate whose calls they make: `values` (`cd_base`), `streams` (`cd_io`), `words`
 //! (`cd_words`), `tokens` (`cd_lex`), `names` (`cd_names`), `meaning` (`cd_meaning`), `taxonomy` (`cd_taxonomy`), `generated` (`cd_gen`),
-//! `normal_forms` (`cd_nnf`), `clauses` (`cd_clause`), `stores` (`cd_store`) and `outboxes` (`cd_actor`). `expressions` makes the class
-//! expressions of two of them.
+//! `normal_forms` (`cd_nnf`), `ranks` (`cd_ranks`), `clauses` (`cd_clause`), `stores` (`cd_store`) and `outboxes` (`cd_actor`).
+//! `expressions` makes the class expressions of two of them.
 //!
 //! They make public calls alone. They stand here and not in those crates, each of which would be proved once more with its tests. No crate
 //! stands on this one.
@@ -25,6 +25,8 @@ mod names;
 mod normal_forms;
 #[cfg(test)]
 mod outboxes;
+#[cfg(test)]
+mod ranks;
 #[cfg(test)]
 mod stores;
 #[cfg(test)]

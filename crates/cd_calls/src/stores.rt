@@ -93,7 +93,8 @@ fn the_clauses_with_an_atom_or_an_existential_are_found(rt: HostRuntime) {
         .push_with_existentials(&mut found)
         .expect(&rt, "memory");
     assert!(rt; found.as_slice() == [0, 1, 3].as_slice());
-    assert!(rt; store.may_have(Atom(3)) && store.may_have(Atom(4)) && !store.may_have(Atom(6)));
+    let (ending, going_on) = store.with_atom(Atom(3));
+    assert!(rt; ending == [0].as_slice() && going_on == [1].as_slice());
     drop(found);
     drop(store);
 }

@@ -120,6 +120,13 @@ module _ (n : Normal) (cells : List CellState) (closed : AreSettled n cells) whe
   derived : (key : List ℕ) → OneOf key keys → (c : List Elem) → OneOf c (live_of (state key)) → Derived n key c
   derived key m c i = subst (λ k. Derived n k c) (own key (known key m)) (live_derived n (state key) (context key (known key m)) c i)
 
+  -- a live clause of a context of one of the cells is derived
+  pub derived_at : (i : ℕ) (c : CellState) → At cells i c → (key : List ℕ) (s : State) → OneOf (key, s) c.contexts → (d : List Elem) → OneOf d (live_of s) → Derived n key d
+  derived_at i c at key s m d k =
+      let w = is_whole i c at in
+      subst (λ z. Derived z key d) (closed.normal i c at)
+      (subst (λ (h : List ℕ). Derived c.normal h d) (w.cell.own key s m) (live_derived c.normal s (w.cell.context key s m) d k))
+
   module _ (below : ℕ → ℕ → Bool) (closure : IsClosure n below) (roles : RolesInRange n) where
     exactly : AreExact n keys (λ k. live_of (state k))
     exactly = exact n below closure roles keys (λ k. live_of (state k)) (saturation n keys state is_closed) derived

@@ -23,7 +23,7 @@ sender (Dead r k) = k
 
 pub owes_sender : (n : Normal) (s : State) (note : Note) → Owes n s note → sender note.fact ≡ s.key
 owes_sender n s note (owes_link r k c m e q) = ap (λ (w : Note). sender w.fact) q
-owes_sender n s note (owes_back h r c t l m e o tm u q) = ap (λ (w : Note). sender w.fact) q
+owes_sender n s note (owes_back h r c t l m e tm u q) = ap (λ (w : Note). sender w.fact) q
 owes_sender n s note (owes_sure h r c t l m e tm u q) = ap (λ (w : Note). sender w.fact) q
 owes_sender n s note (owes_dead h r l m q) = ap (λ (w : Note). sender w.fact) q
 

@@ -1,21 +1,17 @@
--- Closed contexts are saturated: each premise from another context is told by a fact. Where that is a sure in place of a back, the
--- conclusion of Sure is a part of that of Back, which so is redundant.
-use Rattle.std.proofs.Common.{◌≡◌, ◌==◌, ◌&&◌, ◌⊎◌, ℕ, true, List, [], ◌∷◌, refl, sym, ◌∙◌, subst, eqb-true, inl, inr}
+-- Closed contexts are saturated: each premise from another context is told by a fact.
+use Rattle.std.proofs.Common.{◌≡◌, ◌==◌, ◌&&◌, ℕ, true, List, [], ◌∷◌, refl, sym, subst, eqb-true}
 use Rattle.std.specs.Cmp.Lexicographic.{same_text}
 use Rattle.std.proofs.lemmas.Bool.{and_parts}
-use Rattle.cd_base.specs.Lists.{OneOf, Within, SameSet}
-use Rattle.cd_base.specs.Keys.{negated, key_with}
+use Rattle.cd_base.specs.Lists.{OneOf, SameSet}
 use Rattle.cd_base.specs.Normal.{Under}
 use Rattle.cd_base.specs.declared.normal.Normal.{Normal}
 use Rattle.cd_base.specs.declared.normal.Triple.{Triple}
 use Rattle.cd_base.proofs.Members.{any_member}
 use Rattle.cd_clause.specs.declared.elem.Elem.{Elem}
 use Rattle.cd_clause.specs.declared.elem.Elem.TheVariants.{Plain, Exist}
-use Rattle.cd_clause.specs.Elements.{Eligible, rest}
+use Rattle.cd_clause.specs.Elements.{Eligible, IsCase}
 use Rattle.cd_clause.specs.Rules.{Concludes, told_by, by_init, by_neg, by_con, by_ex, by_back, by_sure, by_dead, by_all}
-use Rattle.cd_clause.proofs.Strengths.{covers_trans, within_covers}
 use Rattle.cd_clause.specs.Derivations.{Redundant}
-use Rattle.cd_clause.proofs.Elements.{elem_cases}
 use Rattle.cd_model.specs.Saturated.{Saturated}
 use Rattle.cd_rules.specs.declared.facts.BackFact.{BackFact}
 use Rattle.cd_rules.specs.declared.facts.DeadFact.{DeadFact}
@@ -69,24 +65,6 @@ dead s r k h =
     let e : w.0 ≡ record { role = r; key = k } = λ i. record { role = sym er i; key = sym ek i } in
     subst (λ z. OneOf z s.deads) e w.1
 
--- whether each element of the clause is that one
-only_cases : (e : Elem) (c : List Elem) → Within c (e ∷ []) ⊎ (Within c (e ∷ []) → ⊥)
-only_cases e [] = inl (λ f m. absurd m)
-only_cases e (g ∷ c) = elim (elem_cases g e) [
-  | inr d ↦ inr (λ w. elim (w g (inl refl)) [ inl q ↦ d q | inr z ↦ z ])
-  | inl q ↦ elim (only_cases e c) [
-    | inl w ↦ inl (λ f m. elim m [ inl p ↦ inl (p ∙ q) | inr k ↦ w f k ])
-    | inr d ↦ inr (λ w. d (λ f m. w f (inr m)))
-  ]
-]
-
-alone_cases : (e : Elem) (c : List Elem) → SameSet c (e ∷ []) ⊎ (SameSet c (e ∷ []) → ⊥)
-alone_cases e [] = inr (λ s. s.1 e (inl refl))
-alone_cases e (g ∷ c) = elim (only_cases e (g ∷ c)) [
-  | inl w ↦ inl (w, λ f m. elim m [ inl p ↦ elim (w g (inl refl)) [ inl q ↦ inl (p ∙ sym q) | inr z ↦ absurd z ] | inr z ↦ absurd z ])
-  | inr d ↦ inr (λ s. d s.0)
-]
-
 module _ (n : Normal) (keys : List (List ℕ)) (state : List ℕ → State) (closed : Closed n keys state) where
   abbrev live : List ℕ → List (List Elem)
   live k = live_of (state k)
@@ -110,9 +88,9 @@ module _ (n : Normal) (keys : List (List ℕ)) (state : List ℕ → State) (clo
     link : OneOf k keys × IsLinked (state k) h r
     link = link_had h m c w r k e
 
-    back_had : (t : Triple) (b : List Elem) → OneOf b (live k) → Eligible n (Plain t.atom) b → (SameSet b (Plain t.atom ∷ []) → ⊥) → OneOf t n.n3 → Under n.n5 r t.role → IsBack (state h).backs r k t.atom
-    back_had t b mb eb more tm u =
-        let f = closed.had k link.0 (record { key = h; fact = Back r (state k).key t.atom }) (owes_back h r b t link.1 mb eb more tm u refl) in
+    back_had : (t : Triple) (b : List Elem) → OneOf b (live k) → IsCase n t.atom b → OneOf t n.n3 → Under n.n5 r t.role → IsBack (state h).backs r k t.atom
+    back_had t b mb eb tm u =
+        let f = closed.had k link.0 (record { key = h; fact = Back r (state k).key t.atom }) (owes_back h r b t link.1 mb eb tm u refl) in
         backed (state h) r k t.atom (subst (λ z. has_fact (state h) (Back r z t.atom) ≡ true) (closed.own k link.0) f.1)
 
     sure_had : (t : Triple) (b : List Elem) → OneOf b (live k) → SameSet b (Plain t.atom ∷ []) → OneOf t n.n3 → Under n.n5 r t.role → IsSure (state h).sures r k t.atom
@@ -125,22 +103,12 @@ module _ (n : Normal) (keys : List (List ℕ)) (state : List ℕ → State) (clo
         let f = closed.had k link.0 (record { key = h; fact = Dead r (state k).key }) (owes_dead h r link.1 z refl) in
         dead (state h) r k (subst (λ y. has_fact (state h) (Dead r y) ≡ true) (closed.own k link.0) f.1)
 
-    -- where the clause has the atom alone, the conclusion of Sure is a part of that of Back
-    back_redundant : (t : Triple) → OneOf t n.n3 → Under n.n5 r t.role → (b : List Elem) → OneOf b (live k) → Eligible n (Plain t.atom) b
-        → (d : List Elem) → SameSet d (Plain t.other ∷ Exist r (key_with (negated t.atom) k) ∷ rest (Exist r k) c) → Redundant (live h) d
-    back_redundant t tm u b mb eb d s = elim (alone_cases (Plain t.atom) b) [
-      | inl alone ↦ (let less : List Elem = Plain t.other ∷ rest (Exist r k) c in
-          let q : Redundant (live h) less = redundant_here h m less (by_sure t c r k tm w e (sure_had t b mb alone tm u) u (λ x j. j, λ x j. j)) in
-          (q.0, q.1, covers_trans q.0 less d q.2 (within_covers less d (λ x j. s.1 x (elim j [ inl p ↦ inl p | inr i ↦ inr (inr i) ])))))
-      | inr more ↦ redundant_here h m d (by_back t c r k tm w e (back_had t b mb eb more tm u) u s)
-    ]
-
   all_redundant : (h : List ℕ) → OneOf h keys → (d : List Elem) → Wide h d → Redundant (live h) d
   all_redundant h m d (by_init a k s) = redundant_here h m d (by_init a k s)
   all_redundant h m d (by_neg a c w t k s) = redundant_here h m d (by_neg a c w t k s)
   all_redundant h m d (by_con x l k r s) = redundant_here h m d (by_con x l k r s)
   all_redundant h m d (by_ex t c k w e s) = redundant_here h m d (by_ex t c k w e s)
-  all_redundant h m d (by_back t c r k tm w e b u s) = back_redundant h m c w r k e t tm u b.0 b.1.1 b.2 d s
+  all_redundant h m d (by_back t c r k tm w e b u s) = redundant_here h m d (by_back t c r k tm w e (back_had h m c w r k e t b.0 b.1.1 b.2 tm u) u s)
   all_redundant h m d (by_sure t c r k tm w e b u s) = redundant_here h m d (by_sure t c r k tm w e (sure_had h m c w r k e t b.0 b.1.1 b.2 tm u) u s)
   all_redundant h m d (by_dead c r k w e b s) = redundant_here h m d (by_dead c r k w e (dead_had h m c w r k e b.1) s)
   all_redundant h m d (by_all t c b r k tm w e wb eb u s) = redundant_here h m d (by_all t c b r k tm w e wb eb u s)

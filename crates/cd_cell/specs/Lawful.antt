@@ -19,7 +19,7 @@ same_lawful c d e p note l = subst (λ (f : ℕ × Normal). IsLawfulNote f.1 f.0
 pub owed_lawful : (c : CellState) (p : ℕ) (note : Note) → IsWhole c
     → OwesFrom c.normal c.cells c.contexts p note → IsLawfulNote c.normal c.cells p note
 owed_lawful c p note w o =
-    let j = owed_justified c.normal o.state (w.cell.context o.key o.state o.here) note o.owes in
+    let j = owed_justified c.normal o.state (w.cell.context o.key o.state o.here) (w.closed o.key o.state o.here) note o.owes in
     let b : c.number < c.cells = w.cell.below in
     let e : p ≡ place_of c.cells note.key = o.goes in
     record { below = omega arith; goes = e; reachable = j.0; justified = j.1 }

@@ -3,7 +3,7 @@ use Rattle.std.specs.Prelude.{◌≡◌, ◌⊎◌, ℕ, Bool, true, false, List
 use Rattle.cd_base.specs.Keys.{is_named}
 use Rattle.cd_base.specs.Lists.{OneOf}
 use Rattle.cd_base.specs.declared.normal.Normal.{Normal}
-use Rattle.cd_clause.specs.Derivations.{start_key}
+use Rattle.cd_clause.specs.Derivations.{MayBeAsked, start_key}
 use Rattle.cd_model.specs.Canonical.{IsClosure, RolesInRange}
 use Rattle.cd_model.specs.Exactness.{NoneIn, AllIn, AllInSome}
 use Rattle.cd_actor.specs.Cells.{At}
@@ -14,11 +14,11 @@ use Rattle.cd_cell.specs.declared.reading.Reading.{Reading}
 use Rattle.cd_cell.specs.declared.reading.Reading.TheVariants.{Unsatisfiable, Of}
 
 -- the class has an element in some model, each element of it is in every model in those above, and each named atom that has all its elements in
--- every model is among those above or among those left open
+-- every model is among those above or among those left open, which may be asked for
 pub record IsTrueNames (n : Normal) (a : ℕ) (above left_open : List ℕ) : Type 0 where
   pub some : NoneIn n a → ⊥
   pub above_all : (b : ℕ) → OneOf b above → (is_named n b ≡ true) × AllIn n a b
-  pub open_named : (b : ℕ) → OneOf b left_open → is_named n b ≡ true
+  pub asked : (b : ℕ) → OneOf b left_open → MayBeAsked n a b
   pub every : (b : ℕ) → is_named n b ≡ true → AllIn n a b → OneOf b above ⊎ OneOf b left_open
 
 abbrev pub IsTrueReading : Normal → ℕ → Reading → Type 0

@@ -99,7 +99,7 @@ module _ (n : Normal) where
 
 -- the key of a named atom alone may be started
 pub named_start : (n : Normal) (k : List ℕ) (a : ℕ) → is_named n a ≡ true → k ≡ plain a ∷ [] → IsStart n k
-named_start n k a named e = record { atom = a; others = []; named = named; named_others = λ b m. absurd m; is = e }
+named_start n k a named e = record { atom = a; others = []; named = named; asked = λ b m. absurd m; is = e }
 
 pub from_named : {n : Normal} {k : List ℕ} (a : ℕ) → is_named n a ≡ true → k ≡ plain a ∷ [] → Reachable n k
 from_named {n} {k} a named e = from_start (named_start n k a named e)

@@ -8,7 +8,7 @@ use Rattle.cd_base.specs.declared.normal.Conj.{Conj}
 use Rattle.cd_base.specs.declared.normal.Triple.{Triple}
 use Rattle.cd_clause.specs.declared.elem.Elem.{Elem}
 use Rattle.cd_clause.specs.declared.elem.Elem.TheVariants.{Plain, Exist}
-use Rattle.cd_clause.specs.Elements.{Eligible, rest}
+use Rattle.cd_clause.specs.Elements.{Eligible, IsCase, rest}
 
 -- `m` is the union of the rests of clauses that are had, one for each atom, in which that atom is eligible
 abbrev pub Rests : Normal → (List Elem → Type 0) → List ℕ → List Elem → Type 0
@@ -17,7 +17,8 @@ Rests n Has (a ∷ as') m = (c : List Elem) × Has c × Eligible n (Plain a) c
     × record { tail : List Elem; rests : Rests n Has as' tail; is : m ≡ rest (Plain a) c ++ tail }
 
 -- What other contexts told, of those to which there is an existential of role r and key K: `back r k a` that a is eligible in a clause of
--- the context of K, `sure r k a` that the clause of a alone is in that context, and `dead r k` that the empty clause is.
+-- the context of K that has other elements, `sure r k a` that the clause of a alone is in that context, and `dead r k` that the empty
+-- clause is.
 pub record Told : Type 1 where
   pub back : ℕ → List ℕ → ℕ → Type 0
   pub sure : ℕ → List ℕ → ℕ → Type 0
@@ -49,7 +50,7 @@ pub data Concludes (n : Normal) (key : List ℕ) (Has : List Elem → Type 0) (t
       → SameSet d (Exist t.role (plain t.other ∷ []) ∷ rest (Plain t.atom) c)
       → Concludes n key Has told d
   -- Back     M + some R.K     N + A in the context of K     what has an S-edge to an A is in B     R under S
-  --          -----------------------------------------------------------------------------------------------
+  --          ----------------------------------------------------------------------------------------------- N not empty
   --                              M + B + some R.(K with not A)
   by_back : (t : Triple) (c : List Elem) (r : ℕ) (k : List ℕ) → OneOf t n.n3 → Has c
       → Eligible n (Exist r k) c → told.back r k t.atom → Under n.n5 r t.role
@@ -77,7 +78,7 @@ pub data Concludes (n : Normal) (key : List ℕ) (Has : List Elem → Type 0) (t
 -- what contexts tell by their clauses, where `Has k` are the clauses of the context of k
 abbrev pub told_by : Normal → (List ℕ → List Elem → Type 0) → Told
 told_by n Has = record {
-  back = λ r k a. (c : List Elem) × Has k c × Eligible n (Plain a) c;
+  back = λ r k a. (c : List Elem) × Has k c × IsCase n a c;
   sure = λ r k a. (c : List Elem) × Has k c × SameSet c (Plain a ∷ []);
   dead = λ r k. Has k [];
 }

@@ -15,4 +15,4 @@ mod walk;
 
 pub use clause::Clause;
 pub use elem::Elem;
-pub use eligibility::eligible;
+pub use eligibility::greatest;

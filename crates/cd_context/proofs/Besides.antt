@@ -1,5 +1,5 @@
 -- What is found beside an element of a premise.
-use Rattle.std.proofs.Common.{◌≡◌, ◌≢◌, ◌↔◌, ◌==◌, ℕ, zero, suc, ◌<◌, ◌&&◌, not, Bool, true, false, List, [], ◌∷◌, ◌++◌, length, get_or, refl, sym, ap, ◌∙◌, subst, inl, inr, arith, eq-eqb, eqb-true}
+use Rattle.std.proofs.Common.{◌≡◌, ◌≢◌, ◌↔◌, ◌==◌, ℕ, zero, suc, ◌+◌, ◌<◌, ◌≤◌, ◌&&◌, not, Bool, true, false, List, [], ◌∷◌, ◌++◌, length, get_or, refl, sym, ap, ◌∙◌, subst, inl, inr, arith, eq-eqb, eqb-true}
 use Rattle.std.specs.Prelude.{nat_lt}
 use Rattle.std.proofs.lemmas.Bool.{and_from, and_parts, cases_eq, cond-true, lt-ltb, ltb-true, ne_eqb, not_from_false}
 use Rattle.std.proofs.lemmas.List.{nil_from_length}
@@ -9,16 +9,17 @@ use Rattle.cd_base.specs.declared.normal.Conj.{Conj}
 use Rattle.cd_base.specs.declared.normal.Normal.{Normal}
 use Rattle.cd_base.specs.declared.normal.Triple.{Triple}
 use Rattle.cd_base.proofs.Members.{all_member, not_true, any_by_member, any_member, member_at, member_cases, member_left, member_right}
-use Rattle.cd_clause.specs.Elements.{Eligible}
+use Rattle.cd_clause.specs.Elements.{Eligible, IsGreatestAt}
 use Rattle.cd_clause.specs.declared.elem.Elem.{Elem}
 use Rattle.cd_clause.specs.declared.elem.Elem.TheVariants.{Plain}
+use Rattle.cd_clause.proofs.Eligibles.{eligible_one}
 use Rattle.cd_index.specs.Index.{IsFiling, has, is_filed, is_free, left_of}
 use Rattle.cd_index.proofs.Filing.{atom_below}
 use Rattle.cd_rules.specs.LookUps.{AreAtAtom, HasAllWith, filed_at}
 use Rattle.cd_rules.specs.Steps.{IsWithoutOne}
 use Rattle.cd_rules.proofs.Found.{number_found}
 use Rattle.cd_store.specs.LookUps.{HasElem}
-use Rattle.cd_context.specs.Beside.{HasAllAtoms, IsHad, IsBesideLeft, IsBesideByFiled, IsBesideByOne, IsBesideByCon, IsBesideByUniversal, IsBesideExist, IsBeside, IsBesideAt}
+use Rattle.cd_context.specs.Beside.{HasAllAtoms, IsHad, IsBesideLeft, IsBesideByFiled, IsBesideByOne, IsBesideByCon, IsBesideByUniversal, IsBesideExist, IsBeside}
 
 -- ---- one left side
 
@@ -35,10 +36,10 @@ pub stands : (a : ℕ) (left taken : List ℕ) → IsWithoutOne a left taken →
 stands a left taken w = subst (OneOf a) (sym w.2) (member_right a w.0 (a ∷ w.1) (inl refl))
 
 -- the atoms of a left side are the one that is taken out, and the others
-pub all_had : (clauses : List (List Elem)) (a : ℕ) (left taken : List ℕ) → IsHad clauses (Plain a) → IsWithoutOne a left taken → ((b : ℕ) → OneOf b taken → IsHad clauses (Plain b)) → (b : ℕ) → OneOf b left → IsHad clauses (Plain b)
-all_had clauses a left taken own w h b m = elim (member_cases b w.0 (a ∷ w.1) (subst (OneOf b) w.2 m)) [
+pub all_had : (Up : ℕ → Type 0) (clauses : List (List Elem)) (a : ℕ) (left taken : List ℕ) → IsHad Up clauses (Plain a) → IsWithoutOne a left taken → ((b : ℕ) → OneOf b taken → IsHad Up clauses (Plain b)) → (b : ℕ) → OneOf b left → IsHad Up clauses (Plain b)
+all_had Up clauses a left taken own w h b m = elim (member_cases b w.0 (a ∷ w.1) (subst (OneOf b) w.2 m)) [
   | inl q ↦ h b (subst (OneOf b) (sym w.3) (member_left b w.0 w.1 q))
-  | inr q ↦ elim q [ inl e ↦ subst (λ (z : ℕ). IsHad clauses (Plain z)) (sym e) own | inr z ↦ h b (subst (OneOf b) (sym w.3) (member_right b w.0 w.1 z)) ]
+  | inr q ↦ elim q [ inl e ↦ subst (λ (z : ℕ). IsHad Up clauses (Plain z)) (sym e) own | inr z ↦ h b (subst (OneOf b) (sym w.3) (member_right b w.0 w.1 z)) ]
 ]
 
 -- each of the others stands at a place beside that of the one that is taken out
@@ -54,8 +55,8 @@ own_place a [] after = (omega arith, refl)
 own_place a (c ∷ before) after = let w = own_place a before after in (omega (arith, w.0), w.1)
 
 -- whichever place of the atom is left out, the others have each of the other atoms
-pub elsewhere : (clauses : List (List Elem)) (a : ℕ) (left : List ℕ) (place m : ℕ) → place < length left → get_or left place 0 ≡ a → IsBesideLeft clauses a left m → IsElsewhere clauses left place m
-elsewhere clauses a left place m l e q =
+pub elsewhere : (Up : ℕ → Type 0) (clauses : List (List Elem)) (a : ℕ) (left : List ℕ) (place m : ℕ) → place < length left → get_or left place 0 ≡ a → IsBesideLeft Up clauses a left m → IsElsewhere clauses left place m
+elsewhere Up clauses a left place m l e q =
     let w = q.1 in
     let b = q.3.0 in
     let there = other_place a b w.0 w.1 (subst (OneOf b) w.3 q.3.1) in
@@ -78,15 +79,15 @@ elsewhere clauses a left place m l e q =
 -- ---- axioms by number
 
 -- by the axiom of the number at place i
-abbrev pub OfNumber : Normal → List (List Elem) → ℕ → List ℕ → ℕ → ℕ → Type 0
-OfNumber n clauses a numbers i m = IsBesideLeft clauses a (left_of n.n1 (get_or numbers i 0)) m
+abbrev pub OfNumber : Normal → (ℕ → Type 0) → List (List Elem) → ℕ → List ℕ → ℕ → ℕ → Type 0
+OfNumber n Up clauses a numbers i m = IsBesideLeft Up clauses a (left_of n.n1 (get_or numbers i 0)) m
 
-pub by_number : (n : Normal) (clauses : List (List Elem)) (a : ℕ) (numbers : List ℕ) (m : ℕ) → IsBesideByOne n clauses a numbers m → (i : ℕ) × (i < length numbers) × OfNumber n clauses a numbers i m
-by_number n clauses a numbers m q = let w = member_at q.0 numbers q.1 in (w.0, w.1, subst (λ k. IsBesideLeft clauses a (left_of n.n1 k) m) (sym (w.2 0)) q.2)
+pub by_number : (n : Normal) (Up : ℕ → Type 0) (clauses : List (List Elem)) (a : ℕ) (numbers : List ℕ) (m : ℕ) → IsBesideByOne n Up clauses a numbers m → (i : ℕ) × (i < length numbers) × OfNumber n Up clauses a numbers i m
+by_number n Up clauses a numbers m q = let w = member_at q.0 numbers q.1 in (w.0, w.1, subst (λ k. IsBesideLeft Up clauses a (left_of n.n1 k) m) (sym (w.2 0)) q.2)
 
 -- all axioms with the atom on the left are among these
-pub by_all : (n : Normal) (clauses : List (List Elem)) (a : ℕ) (numbers : List ℕ) → HasAllWith n.n1 a numbers → (m : ℕ) → IsBesideByCon n clauses a m → IsBesideByOne n clauses a numbers m
-by_all n clauses a numbers h m q = (q.0, h q.0 q.1 (stands a (left_of n.n1 q.0) q.2.0 q.2.1), q.2)
+pub by_all : (n : Normal) (Up : ℕ → Type 0) (clauses : List (List Elem)) (a : ℕ) (numbers : List ℕ) → HasAllWith n.n1 a numbers → (m : ℕ) → IsBesideByCon n Up clauses a m → IsBesideByOne n Up clauses a numbers m
+by_all n Up clauses a numbers h m q = (q.0, h q.0 q.1 (stands a (left_of n.n1 q.0) q.2.0 q.2.1), q.2)
 
 -- the left side of the axiom at a place
 pub left_read : (axioms : List Conj) (k : ℕ) (x : Conj) → k < length axioms → x ≡ get_or axioms k x → left_of axioms k ≡ x.left
@@ -95,8 +96,8 @@ left_read (y ∷ axioms) zero x l e = ap (λ (c : Conj). c.left) (sym e)
 left_read (y ∷ axioms) (suc k) x l e = left_read axioms k x (omega arith) e
 
 -- by an axiom that is filed under the atom at place i
-abbrev pub OfAtomAt : Normal → List (List Elem) → List (List ℕ) → List ℕ → ℕ → ℕ → ℕ → Type 0
-OfAtomAt n clauses filed atoms a i m = IsBesideByFiled n filed clauses a (get_or atoms i 0) m
+abbrev pub OfAtomAt : Normal → (ℕ → Type 0) → List (List Elem) → List (List ℕ) → List ℕ → ℕ → ℕ → ℕ → Type 0
+OfAtomAt n Up clauses filed atoms a i m = IsBesideByFiled n filed Up clauses a (get_or atoms i 0) m
 
 in_filed : (filed : List (List ℕ)) (number b k : ℕ) → b < number → OneOf k (get_or filed b []) → OneOf k (filed_at filed number b)
 in_filed filed number b k l m = subst (OneOf k) (sym (cond-true (nat_lt b number) (get_or filed b []) [] (lt-ltb b number l))) m
@@ -123,18 +124,18 @@ filed_there n filed filing k l some =
     )
 
 -- an axiom that can fire is filed under an atom of a stored clause
-pub by_filed : (n : Normal) (clauses : List (List Elem)) (atoms : List ℕ) (a : ℕ) (filed : List (List ℕ)) → (a < n.atoms → IsFiling n.n1 n.atoms filed) → HasAllAtoms clauses atoms → IsHad clauses (Plain a) → (m : ℕ) → IsBesideByCon n clauses a m
-    → (i : ℕ) × (i < length atoms) × OfAtomAt n clauses filed atoms a i m
-by_filed n clauses atoms a filed filing every own m q =
+pub by_filed : (n : Normal) (Up : ℕ → Type 0) (clauses : List (List Elem)) (atoms : List ℕ) (a : ℕ) (filed : List (List ℕ)) → (a < n.atoms → IsFiling n.n1 n.atoms filed) → HasAllAtoms clauses atoms → IsHad Up clauses (Plain a) → (m : ℕ) → IsBesideByCon n Up clauses a m
+    → (i : ℕ) × (i < length atoms) × OfAtomAt n Up clauses filed atoms a i m
+by_filed n Up clauses atoms a filed filing every own m q =
     let left = left_of n.n1 q.0 in
     let there : OneOf a left = stands a left q.2.0 q.2.1 in
     let g : IsFiling n.n1 n.atoms filed = filing (left_below n q.0 a there) in
     let at = filed_there n filed g q.0 q.1 (λ e. absurd (subst (OneOf a) e there)) in
     let chosen : ℕ = g.chosen q.0 in
-    let some : IsHad clauses (Plain chosen) = all_had clauses a left q.2.0 own q.2.1 q.2.2 chosen at.0 in
-    let w = member_at chosen atoms (every chosen some.0 some.1) in
+    let some : IsHad Up clauses (Plain chosen) = all_had Up clauses a left q.2.0 own q.2.1 q.2.2 chosen at.0 in
+    let w = member_at chosen atoms (every chosen some.0 some.2) in
     let is : chosen ≡ get_or atoms w.0 0 = sym (w.2 0) in
-    (w.0, w.1, subst (λ b. IsBesideByFiled n filed clauses a b m) is (left_below n q.0 chosen at.0, (q.0, at.1, q.2)))
+    (w.0, w.1, subst (λ b. IsBesideByFiled n filed Up clauses a b m) is (left_below n q.0 chosen at.0, (q.0, at.1, q.2)))
 
 -- ---- universals
 
@@ -189,12 +190,11 @@ universal_of triples found a b h e =
 
 -- ---- elements
 
--- what is beside an eligible element is beside that of some place
-pub by_elem : (n : Normal) (clauses : List (List Elem)) (c : List Elem) (m : ℕ) → ((e : Elem) × Eligible n e c × IsBeside n clauses e m) → (i : ℕ) × (i < length c) × IsBesideAt n clauses c i m
-by_elem n clauses c m q =
-    let w = member_at q.0 c q.1.isin in
-    let at : get_or c w.0 (Plain 0) ≡ q.0 = w.2 (Plain 0) in
-    (w.0, w.1, (subst (λ e. Eligible n e c) (sym at) q.1, subst (λ e. IsBeside n clauses e m) (sym at) q.2))
+-- what is beside an eligible element is beside the greatest one
+pub by_greatest : (n : Normal) (Up : ℕ → Type 0) (clauses : List (List Elem)) (c : List Elem) (i : ℕ) (x : Elem) (m : ℕ) → IsGreatestAt n c i → x ≡ get_or c i (Plain 0)
+    → ((e : Elem) × Eligible n e c × IsBeside n Up clauses e m) → IsBeside n Up clauses x m
+by_greatest n Up clauses c i x m g r q =
+    subst (λ e. IsBeside n Up clauses e m) (eligible_one n c q.0 (get_or c i (Plain 0)) q.1 g.eligible ∙ sym r) q.2
 
 -- ---- candidates
 
@@ -204,3 +204,13 @@ OfTakenUp candidates live waiting premise i k = (k ≡ get_or candidates i 0) ×
 
 pub all_taken_up : (candidates live waiting : List ℕ) (premise k : ℕ) → (OneOf k candidates × OneOf k live × (OneOf k waiting → ⊥) × (k ≡ premise → ⊥)) → (i : ℕ) × (i < length candidates) × OfTakenUp candidates live waiting premise i k
 all_taken_up candidates live waiting premise k q = let w = member_at k candidates q.0 in (w.0, w.1, (sym (w.2 0), q.1, q.2, q.3))
+
+-- ---- a search among numbers
+
+-- one place more was passed without what is sought
+pub not_yet : (Q : ℕ → Type 0) (xs : List ℕ) (i : ℕ) → ((k : ℕ) → k < i → Q (get_or xs k 0) → ⊥) → (Q (get_or xs i 0) → ⊥) → (k : ℕ) → k < i + 1 → Q (get_or xs k 0) → ⊥
+not_yet Q xs i h f k l q = elim (cases_eq k i) [ inl e ↦ f (subst (λ j. Q (get_or xs j 0)) e q) | inr d ↦ h k (omega (arith, l, d)) q ]
+
+-- all were
+pub none_there : (Q : ℕ → Type 0) (xs : List ℕ) (i : ℕ) → length xs ≤ i → ((k : ℕ) → k < i → Q (get_or xs k 0) → ⊥) → (m : ℕ) → OneOf m xs → Q m → ⊥
+none_there Q xs i l h m mem q = let w = member_at m xs mem in h w.0 (omega (arith, w.1, l)) (subst Q (sym (w.2 0)) q)

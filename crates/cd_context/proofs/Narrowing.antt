@@ -13,11 +13,11 @@ use Rattle.cd_rules.proofs.Using.{from_clause_some, some_from_clause}
 use Rattle.cd_store.proofs.Picks.{picked_in, picked_from}
 use Rattle.cd_context.proofs.Besides.{left_read}
 use Rattle.cd_store.specs.LookUps.{HasElem}
-use Rattle.cd_context.specs.Beside.{AreEnough, AreTakenUp, IsBeside, IsBesideLeft, IsHad}
+use Rattle.cd_context.specs.Beside.{AreEnough, AreTakenUp, IsBeside, IsBesideLeft, IsHad, Stands}
 
 module _ (n : Normal) (clauses : List (List Elem)) (premise : ℕ) (live waiting found numbers : List ℕ)
     (range : (m : ℕ) → OneOf m live → m < length clauses) (own : premise < length clauses)
-    (gained : (m : ℕ) → ((e : Elem) × Eligible n e (get_or clauses premise []) × IsBeside n clauses e m) → OneOf m found)
+    (gained : (m : ℕ) → ((e : Elem) × Eligible n e (get_or clauses premise []) × IsBeside n (Stands live waiting premise) clauses e m) → OneOf m found)
     (kept : (m : ℕ) → OneOf m found → OneOf m live → (OneOf m waiting → ⊥) → (m ≡ premise) ⊎ OneOf m numbers) where
   module _ (taken : List ℕ) (up : AreTakenUp live waiting taken) where
     abbrev Wide : List Elem → Type 0
@@ -37,13 +37,13 @@ module _ (n : Normal) (clauses : List (List Elem)) (premise : ℕ) (live waiting
         ]
 
     -- what stands in a clause is had
-    some_had : (c : List Elem) (a : ℕ) → Wide c → OneOf (Plain a) c → IsHad clauses (Plain a)
-    some_had c a (inl q) m = (premise, (own, subst (λ d. OneOf (Plain a) d) q m))
-    some_had c a (inr q) m = let w = picked_from clauses taken c q in (w.0, (range w.0 (up.0 w.0 w.1), subst (λ d. OneOf (Plain a) d) w.2 m))
+    some_had : (c : List Elem) (a : ℕ) → Wide c → OneOf (Plain a) c → IsHad (Stands live waiting premise) clauses (Plain a)
+    some_had c a (inl q) m = (premise, inl refl, (own, subst (λ d. OneOf (Plain a) d) q m))
+    some_had c a (inr q) m = let w = picked_from clauses taken c q in (w.0, inr (up.0 w.0 w.1, up.1 w.0 w.1), (range w.0 (up.0 w.0 w.1), subst (λ d. OneOf (Plain a) d) w.2 m))
 
-    rests_had : (left : List ℕ) (m : List Elem) → Rests n Wide left m → (b : ℕ) → OneOf b left → IsHad clauses (Plain b)
+    rests_had : (left : List ℕ) (m : List Elem) → Rests n Wide left m → (b : ℕ) → OneOf b left → IsHad (Stands live waiting premise) clauses (Plain b)
     rests_had [] m r b i = absurd i
-    rests_had (a ∷ left) m r b (inl e) = subst (λ (z : ℕ). IsHad clauses (Plain z)) (sym e) (some_had r.0 a r.1 r.2.isin)
+    rests_had (a ∷ left) m r b (inl e) = subst (λ (z : ℕ). IsHad (Stands live waiting premise) clauses (Plain z)) (sym e) (some_had r.0 a r.1 r.2.isin)
     rests_had (a ∷ left) m r b (inr i) = rests_had left r.3.tail r.3.rests b i
 
     rests_narrow : (left : List ℕ) (m : List Elem) → ((b : ℕ) → OneOf b left → (k : ℕ) → HasElem clauses (Plain b) k → OneOf k found) → Rests n Wide left m → Rests n Narrow left m
@@ -74,7 +74,7 @@ module _ (n : Normal) (clauses : List (List Elem)) (premise : ℕ) (live waiting
               (
                 taken_out.2.0,
                 rests_narrow taken_out.0 taken_out.2.0
-                    (λ b i k u. gained k (Plain a, el, inl (at.0, at.1, subst (λ l. IsBesideLeft clauses a l k) (sym is) (taken_out.0, taken_out.1, all, (b, i, u)))))
+                    (λ b i k u. gained k (Plain a, el, inl (at.0, at.1, subst (λ l. IsBesideLeft (Stands live waiting premise) clauses a l k) (sym is) (taken_out.0, taken_out.1, all, (b, i, u)))))
                     taken_out.2.1,
                 taken_out.2.2,
               ),

@@ -1,5 +1,5 @@
 -- What a context owes, by its clauses, their elements and its links.
-use Rattle.std.proofs.Common.{◌≡◌, ◌⊎◌, ◌↔◌, Bool, ℕ, zero, suc, ◌<◌, ◌≤◌, true, false, List, [], ◌∷◌, ◌++◌, length, filter, get_or, drop, refl, sym, ◌∙◌, ap, subst, inl, inr, arith}
+use Rattle.std.proofs.Common.{◌≡◌, ◌⊎◌, ◌↔◌, Bool, ℕ, zero, suc, ◌<◌, ◌≤◌, true, false, List, [], ◌∷◌, ◌++◌, length, filter, get_or, drop, refl, sym, ◌∙◌, subst, inl, inr, arith}
 use Rattle.std.specs.Prelude.{nat_lt}
 use Rattle.std.specs.List.Sorted.{IsNonDecreasingBy, IsPartitionPoint}
 use Rattle.std.proofs.lemmas.Bool.{cases_lt, lt-ltb, ltb-true, ltb-false, false≢true}
@@ -9,9 +9,9 @@ use Rattle.cd_base.specs.declared.normal.Triple.{Triple}
 use Rattle.cd_base.proofs.Members.{member_at, member_get, member_right, member_cases}
 use Rattle.cd_clause.specs.declared.elem.Elem.{Elem}
 use Rattle.cd_clause.specs.declared.elem.Elem.TheVariants.{Plain, Exist}
-use Rattle.cd_clause.specs.Elements.{Eligible}
+use Rattle.cd_clause.specs.Elements.{Eligible, IsCase, IsGreatestAt}
 use Rattle.cd_clause.specs.Numbers.{picked}
-use Rattle.cd_clause.proofs.Eligibles.{eligible_alone}
+use Rattle.cd_clause.proofs.Eligibles.{eligible_alone, eligible_one, none_eligible}
 use Rattle.cd_store.specs.Store.{IsAscending}
 use Rattle.cd_store.proofs.Picks.{picked_in, picked_from}
 use Rattle.cd_rules.specs.declared.facts.BackFact.{BackFact}
@@ -23,28 +23,20 @@ use Rattle.cd_context.specs.declared.facts.LinkFact.{LinkFact}
 use Rattle.cd_context.specs.declared.facts.Note.{Note}
 use Rattle.cd_context.specs.Contract.{Sends, ListsOwed}
 use Rattle.cd_base.specs.Appends.{Appends}
-use Rattle.cd_base.proofs.Appending.{OfBelow, OfOne, otherwise}
+use Rattle.cd_base.proofs.Appending.{OfOne, none, otherwise}
 use Rattle.cd_base.specs.Appends.{AppendsOnce}
 use Rattle.cd_context.specs.Owes.{Owes, owes_link, owes_back, owes_sure, owes_dead}
-use Rattle.cd_context.specs.OwedParts.{AreFrom, IsUnderOne, IsOfUse, IsLinkNote, IsDeadNote, IsAlone, IsUsefulNote, IsLinkAt, IsToldAt, IsAtomTold, IsLinkOf, IsToldTo, IsToldBy, IsOwedBy}
+use Rattle.cd_context.specs.OwedParts.{AreFrom, IsUnderOne, IsOfUse, IsLinkNote, IsDeadNote, IsAlone, IsUsefulNote, IsAtomTold, IsLinkOf, IsToldTo, IsToldBy, IsOwedBy}
 use Rattle.cd_context.specs.State.{State, live_of}
 use Rattle.cd_rules.proofs.Found.{filtered_member, member_filtered}
 
--- ---- one element
+-- ---- the greatest element of a clause
 
--- the link of an existential that is eligible
-pub link_at : (n : Normal) (own : List ℕ) (c : List Elem) (i r : ℕ) (k : List ℕ) (Done : Type 0) (old new : List Note)
-    → get_or c i (Plain 0) ≡ Exist r k → Eligible n (get_or c i (Plain 0)) c → Appends OneOf (IsLinkNote own r k) Done old new → Appends OneOf (IsLinkAt n own c i) Done old new
-link_at n own c i r k Done old new e el a =
-    otherwise (IsLinkNote own r k) (IsLinkAt n own c i) Done Done old new
-    (λ note p. (r, k, e, subst (λ (x : Elem). Eligible n x c) e el, p))
-    (λ h note q. same_link note q.0 q.1 (sym e ∙ q.2) q.4) (λ h. h) a
-  where
-    same_link : (note : Note) (s : ℕ) (l : List ℕ) → Exist r k ≡ Exist s l → IsLinkNote own s l note → IsLinkNote own r k note
-    same_link note s l z p =
-        let role : s ≡ r = cc in
-        let key : l ≡ k = cc in
-        subst (λ (m : List ℕ). IsLinkNote own r m note) key (subst (λ (t : ℕ). IsLinkNote own t l note) role p)
+same_link : (own : List ℕ) (r : ℕ) (k : List ℕ) (note : Note) (s : ℕ) (l : List ℕ) → Exist s l ≡ Exist r k → IsLinkNote own s l note → IsLinkNote own r k note
+same_link own r k note s l z p =
+    let role : s ≡ r = cc in
+    let key : l ≡ k = cc in
+    subst (λ (m : List ℕ). IsLinkNote own r m note) key (subst (λ (t : ℕ). IsLinkNote own t l note) role p)
 
 -- two answers to one question
 same_answer : (P : Type 0) (b d : Bool) → (b ≡ true) ↔ P → (d ≡ true) ↔ P → b ≡ d
@@ -53,20 +45,60 @@ same_answer P true false p q = absurd (false≢true (q.1 (p.0 refl)))
 same_answer P false true p q = absurd (false≢true (p.1 (q.0 refl)))
 same_answer P false false p q = refl
 
--- the facts of an atom that is eligible
-pub told_at : (n : Normal) (own : List ℕ) (links : List LinkFact) (c : List Elem) (i a : ℕ) (alone : Bool) (Done : Type 0) (old new : List Note)
-    → get_or c i (Plain 0) ≡ Plain a → Eligible n (get_or c i (Plain 0)) c → IsAlone c a alone → Appends OneOf (OfOne (IsUsefulNote n own a alone) links) Done old new
-    → Appends OneOf (IsToldAt n own links c i) Done old new
-told_at n own links c i a alone Done old new e el is w =
-    otherwise (OfOne (IsUsefulNote n own a alone) links) (IsToldAt n own links c i) Done Done old new
-    (λ note p. (a, e, (p.0, p.1, (subst (λ (x : Elem). Eligible n x c) e el, (alone, is, p.2)))))
-    (λ h note q. same_atom note q.0 (sym e ∙ q.1) q.2) (λ h. h) w
-  where
-    same_atom : (note : Note) (b : ℕ) → Plain a ≡ Plain b → (f : LinkFact) × OneOf f links × IsAtomTold n own c b f note → OfOne (IsUsefulNote n own a alone) links note
-    same_atom note b z p =
-        let atom : b ≡ a = cc in
-        let t : IsAtomTold n own c a p.0 note = subst (λ (d : ℕ). IsAtomTold n own c d p.0 note) atom p.2 in
-        (p.0, p.1, subst (λ (d : Bool). IsUsefulNote n own a d p.0 note) (same_answer (SameSet c (Plain a ∷ [])) t.1.0 alone t.1.1 is) t.1.2)
+module _ (n : Normal) (own : List ℕ) (c : List Elem) (i : ℕ) (g : IsGreatestAt n c i) where
+  -- any other eligible element is that one
+  the_one : (e x : Elem) → get_or c i (Plain 0) ≡ x → Eligible n e c → e ≡ x
+  the_one e x at el = eligible_one n c e (get_or c i (Plain 0)) el g.eligible ∙ at
+
+  -- it is an existential: its link is owed
+  pub link_owed : (r : ℕ) (k : List ℕ) (Done : Type 0) (old new : List Note) → get_or c i (Plain 0) ≡ Exist r k
+      → Appends OneOf (IsLinkNote own r k) Done old new → Appends OneOf (IsLinkOf n own c) Done old new
+  link_owed r k Done old new at a =
+      otherwise (IsLinkNote own r k) (IsLinkOf n own c) Done Done old new
+      (λ note p. (r, k, subst (λ (x : Elem). Eligible n x c) at g.eligible, p))
+      (λ h note q. same_link own r k note q.0 q.1 (the_one (Exist q.0 q.1) (Exist r k) at q.2) q.3) (λ h. h) a
+
+  -- it is an atom: no link is owed
+  pub no_link : (a : ℕ) (Done : Type 0) (old : List Note) → get_or c i (Plain 0) ≡ Plain a → Appends OneOf (IsLinkOf n own c) Done old old
+  no_link a Done old at = none (IsLinkOf n own c) Done old (λ h note q. let e : Exist q.0 q.1 ≡ Plain a = the_one (Exist q.0 q.1) (Plain a) at q.2 in absurd (exist_not_plain q.0 q.1 a e))
+    where
+      exist_not_plain : (r : ℕ) (k : List ℕ) (a : ℕ) → Exist r k ≡ Plain a → ⊥
+      exist_not_plain r k a e = cc
+
+  -- a clause with an element isn't empty
+  some_element : c ≡ [] → ⊥
+  some_element e = none_eligible n c (get_or c i (Plain 0)) e g.eligible
+
+  -- it is an atom: its facts are told
+  pub atom_told : (links : List LinkFact) (a : ℕ) (alone : Bool) (Done : Type 0) (old new : List Note) → get_or c i (Plain 0) ≡ Plain a → IsAlone c a alone
+      → Appends OneOf (OfOne (IsUsefulNote n own a alone) links) Done old new → Appends OneOf (IsToldBy n own links c) Done old new
+  atom_told links a alone Done old new at is w =
+      otherwise (OfOne (IsUsefulNote n own a alone) links) (IsToldBy n own links c) Done Done old new
+      (λ note p. (p.0, p.1, inr (a, (subst (λ (x : Elem). Eligible n x c) at g.eligible, (alone, is, p.2)))))
+      (λ h note q. told note q.0 q.1 q.2) (λ h. h) w
+    where
+      told : (note : Note) (f : LinkFact) → OneOf f links → IsToldTo n own c f note → OfOne (IsUsefulNote n own a alone) links note
+      told note f m (inl e) = absurd (some_element e.0)
+      told note f m (inr t) =
+          let same : Plain t.0 ≡ Plain a = the_one (Plain t.0) (Plain a) at t.1.0 in
+          let atom : t.0 ≡ a = cc in
+          let u : IsAtomTold n own c a f note = subst (λ (d : ℕ). IsAtomTold n own c d f note) atom t.1 in
+          (f, m, subst (λ (d : Bool). IsUsefulNote n own a d f note) (same_answer (SameSet c (Plain a ∷ [])) u.1.0 alone u.1.1 is) u.1.2)
+
+  -- it is an existential: nothing is told
+  pub none_told : (links : List LinkFact) (r : ℕ) (k : List ℕ) (Done : Type 0) (old : List Note) → get_or c i (Plain 0) ≡ Exist r k → Appends OneOf (IsToldBy n own links c) Done old old
+  none_told links r k Done old at = none (IsToldBy n own links c) Done old (λ h note q. told note q.0 q.2)
+    where
+      plain_not_exist : (a : ℕ) → Plain a ≡ Exist r k → ⊥
+      plain_not_exist a e = cc
+
+      told : (note : Note) (f : LinkFact) → IsToldTo n own c f note → ⊥
+      told note f (inl e) = some_element e.0
+      told note f (inr t) = plain_not_exist t.0 (the_one (Plain t.0) (Exist r k) at t.1.0)
+
+-- the empty clause owes no link
+pub empty_owes : (n : Normal) (own : List ℕ) (c : List Elem) (Done : Type 0) (old : List Note) → c ≡ [] → Appends OneOf (IsLinkOf n own c) Done old old
+empty_owes n own c Done old e = none (IsLinkOf n own c) Done old (λ h note q. none_eligible n c (Exist q.0 q.1) e q.2)
 
 -- ---- one link
 
@@ -76,27 +108,7 @@ of_use n a axioms r at u = let w = (at u.0).0 u.1 in (u.0, w.0, w.1, u.2)
 pub use_found : (n : Normal) (a : ℕ) (axioms : List Triple) (r : ℕ) → AreAtAtom n.n3 a axioms → IsOfUse n a r → IsUnderOne n axioms r
 use_found n a axioms r at u = (u.0, (at u.0).1 (u.1, u.2), u.3)
 
--- ---- one clause
-
--- the links of the places are those of the clause
-pub links_end : (n : Normal) (own : List ℕ) (c : List Elem) (count : ℕ) (Done Done' : Type 0) (old new : List Note) → count ≡ length c → (Done' → Done)
-    → Appends OneOf (OfBelow (IsLinkAt n own c) count) Done old new → Appends OneOf (IsLinkOf n own c) Done' old new
-links_end n own c count Done Done' old new e d a =
-    otherwise (OfBelow (IsLinkAt n own c) count) (IsLinkOf n own c) Done Done' old new
-    (λ note q. (q.2.0, q.2.1, q.2.3, q.2.4))
-    (λ h note q. let at = member_at (Exist q.0 q.1) c q.2.isin in (at.0, omega (arith, at.1, e), (q.0, q.1, at.2 (Plain 0), q.2, q.3))) d a
-
--- what the places of a clause tell is what it tells, where it isn't empty
-pub told_end : (n : Normal) (own : List ℕ) (links : List LinkFact) (c : List Elem) (count : ℕ) (Done Done' : Type 0) (old new : List Note) → count ≡ length c → (count ≡ 0 → ⊥) → (Done' → Done)
-    → Appends OneOf (OfBelow (IsToldAt n own links c) count) Done old new → Appends OneOf (IsToldBy n own links c) Done' old new
-told_end n own links c count Done Done' old new e some d a =
-    otherwise (OfBelow (IsToldAt n own links c) count) (IsToldBy n own links c) Done Done' old new
-    (λ note q. (q.2.2.0, q.2.2.1, inr (q.2.0, q.2.2.2)))
-    (λ h note q. told note q.0 q.1 q.2) d a
-  where
-    told : (note : Note) (f : LinkFact) → OneOf f links → IsToldTo n own c f note → OfBelow (IsToldAt n own links c) count note
-    told note f m (inl w) = absurd (some (e ∙ ap (λ (l : List Elem). length l) w.0))
-    told note f m (inr w) = let at = member_at (Plain w.0) c w.1.0.isin in (at.0, omega (arith, at.1, e), (w.0, at.2 (Plain 0), (f, m, w.1)))
+-- ---- the empty clause
 
 -- an empty clause tells deads
 pub deads_end : (n : Normal) (own : List ℕ) (links : List LinkFact) (c : List Elem) (Done : Type 0) (old new : List Note) → c ≡ []
@@ -168,15 +180,14 @@ owed_of_clause n s c m note (inr q) = told q.0 q.1 q.2
         owes_sure f.key f.role c u.0 l m (subst (λ (b : ℕ). SameSet c (Plain b ∷ [])) (sym u.2) (is.0 refl)) u.1 u.3
         (subst (λ (b : ℕ). note ≡ record { key = f.key; fact = Sure f.role s.key b }) (sym u.2) q)
     told f l (inr (a, (el, (false, is, (u, q))))) =
-        owes_back f.key f.role c u.0 l m (subst (λ (b : ℕ). Eligible n (Plain b) c) (sym u.2) el)
-        (subst (λ (b : ℕ). SameSet c (Plain b ∷ []) → ⊥) (sym u.2) (λ t. false≢true (is.1 t))) u.1 u.3
+        owes_back f.key f.role c u.0 l m (subst (λ (b : ℕ). IsCase n b c) (sym u.2) (el, λ t. false≢true (is.1 t))) u.1 u.3
         (subst (λ (b : ℕ). note ≡ record { key = f.key; fact = Back f.role s.key b }) (sym u.2) q)
 
 -- what is owed is owed by a live clause
 pub clause_of_owed : (n : Normal) (s : State) (note : Note) → Owes n s note → (c : List Elem) × OneOf c (live_of s) × IsOwedBy n s.key s.links c note
 clause_of_owed n s note (owes_link r k c m e q) = (c, m, inl (r, k, e, q))
-clause_of_owed n s note (owes_back h r c t l m e o tm u q) =
-    (c, m, inr (record { key = h; role = r }, l, inr (t.atom, (e, (false, (λ f. absurd (false≢true f), λ a. absurd (o a)), ((t, tm, refl, u), q))))))
+clause_of_owed n s note (owes_back h r c t l m e tm u q) =
+    (c, m, inr (record { key = h; role = r }, l, inr (t.atom, (e.0, (false, (λ f. absurd (false≢true f), λ a. absurd (e.1 a)), ((t, tm, refl, u), q))))))
 clause_of_owed n s note (owes_sure h r c t l m e tm u q) =
     (c, m, inr (record { key = h; role = r }, l, inr (t.atom, (eligible_alone n t.atom c e, (true, (λ f. e, λ a. refl), ((t, tm, refl, u), q))))))
 clause_of_owed n s note (owes_dead h r l m q) = ([], m, inr (record { key = h; role = r }, l, inl (refl, q)))

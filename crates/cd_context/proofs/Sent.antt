@@ -54,7 +54,7 @@ live_before old new stored e t c m =
 -- what is owed for live clauses that are live in the other state too, towards the same links
 owed_for : (n : Normal) (s t : State) → s.key ≡ t.key → s.links ≡ t.links → ((c : List Elem) → OneOf c (live_of s) → OneOf c (live_of t)) → (note : Note) → Owes n s note → Owes n t note
 owed_for n s t k l f note (owes_link r key c m e q) = owes_link r key c (f c m) e (subst (λ w. note ≡ record { key = key; fact = Link w r }) k q)
-owed_for n s t k l f note (owes_back h r c x i m e o a u q) = owes_back h r c x (subst (λ w. OneOf (record { key = h; role = r }) w) l i) (f c m) e o a u (subst (λ w. note ≡ record { key = h; fact = Back r w x.atom }) k q)
+owed_for n s t k l f note (owes_back h r c x i m e a u q) = owes_back h r c x (subst (λ w. OneOf (record { key = h; role = r }) w) l i) (f c m) e a u (subst (λ w. note ≡ record { key = h; fact = Back r w x.atom }) k q)
 owed_for n s t k l f note (owes_sure h r c x i m e a u q) = owes_sure h r c x (subst (λ w. OneOf (record { key = h; role = r }) w) l i) (f c m) e a u (subst (λ w. note ≡ record { key = h; fact = Sure r w x.atom }) k q)
 owed_for n s t k l f note (owes_dead h r i m q) = owes_dead h r (subst (λ w. OneOf (record { key = h; role = r }) w) l i) (f [] m) (subst (λ w. note ≡ record { key = h; fact = Dead r w }) k q)
 
@@ -68,7 +68,7 @@ owed_after n old clauses live backs sures deads stored e t note o =
 -- what no clause owes
 pub owed_by_none : (n : Normal) (s : State) → ((c : List Elem) → OneOf c (live_of s) → ⊥) → (note : Note) → Owes n s note → ⊥
 owed_by_none n s none note (owes_link r key c m e q) = none c m
-owed_by_none n s none note (owes_back h r c x i m e o a u q) = none c m
+owed_by_none n s none note (owes_back h r c x i m e a u q) = none c m
 owed_by_none n s none note (owes_sure h r c x i m e a u q) = none c m
 owed_by_none n s none note (owes_dead h r i m q) = none [] m
 

@@ -1,10 +1,9 @@
 -- Which clauses can be of use beside a premise.
-use Rattle.std.specs.Prelude.{◌≡◌, ℕ, ◌<◌, ◌⊎◌, List, length, slice_index_or}
+use Rattle.std.specs.Prelude.{◌≡◌, ℕ, ◌<◌, ◌⊎◌, List, length}
 use Rattle.cd_base.specs.Lists.{OneOf, Within}
 use Rattle.cd_base.specs.declared.normal.Normal.{Normal}
 use Rattle.cd_base.specs.declared.normal.Triple.{Triple}
 use Rattle.cd_clause.specs.Derivations.{Redundant}
-use Rattle.cd_clause.specs.Elements.{Eligible}
 use Rattle.cd_clause.specs.declared.elem.Elem.{Elem}
 use Rattle.cd_clause.specs.declared.elem.Elem.TheVariants.{Plain, Exist}
 use Rattle.cd_index.specs.Index.{left_of}
@@ -14,31 +13,35 @@ use Rattle.cd_rules.specs.Steps.{IsWithoutOne}
 use Rattle.cd_rules.specs.Uses.{FromClause}
 use Rattle.cd_store.specs.LookUps.{HasElem, HasExistential}
 
--- some stored clause has the element
-abbrev pub IsHad : List (List Elem) → Elem → Type 0
-IsHad clauses e = (m : ℕ) × HasElem clauses e m
+-- the number is that of the premise, or of a clause that was taken up: it is live and doesn't wait
+abbrev pub Stands : List ℕ → List ℕ → ℕ → ℕ → Type 0
+Stands live waiting premise m = (m ≡ premise) ⊎ (OneOf m live × (OneOf m waiting → ⊥))
 
--- By Con with this left side, of which each atom but one occurrence of `a` stands in some clause: the clause has one of these.
-abbrev pub IsBesideLeft : List (List Elem) → ℕ → List ℕ → ℕ → Type 0
-IsBesideLeft clauses a left m =
+-- a clause with such a number has the element
+abbrev pub IsHad : (ℕ → Type 0) → List (List Elem) → Elem → Type 0
+IsHad Up clauses e = (m : ℕ) × Up m × HasElem clauses e m
+
+-- By Con with this left side, of which each atom but one occurrence of `a` stands in some such clause: the clause has one of these.
+abbrev pub IsBesideLeft : (ℕ → Type 0) → List (List Elem) → ℕ → List ℕ → ℕ → Type 0
+IsBesideLeft Up clauses a left m =
     (taken : List ℕ) × IsWithoutOne a left taken
-    × ((b : ℕ) → OneOf b taken → IsHad clauses (Plain b))
+    × ((b : ℕ) → OneOf b taken → IsHad Up clauses (Plain b))
     × ((b : ℕ) × OneOf b taken × HasElem clauses (Plain b) m)
 
 -- by Con with one of these axioms
-abbrev pub IsBesideByOne : Normal → List (List Elem) → ℕ → List ℕ → ℕ → Type 0
-IsBesideByOne n clauses a numbers m =
-    (k : ℕ) × OneOf k numbers × IsBesideLeft clauses a (left_of n.n1 k) m
+abbrev pub IsBesideByOne : Normal → (ℕ → Type 0) → List (List Elem) → ℕ → List ℕ → ℕ → Type 0
+IsBesideByOne n Up clauses a numbers m =
+    (k : ℕ) × OneOf k numbers × IsBesideLeft Up clauses a (left_of n.n1 k) m
 
 -- by Con with any axiom
-abbrev pub IsBesideByCon : Normal → List (List Elem) → ℕ → ℕ → Type 0
-IsBesideByCon n clauses a m =
-    (k : ℕ) × (k < length n.n1) × IsBesideLeft clauses a (left_of n.n1 k) m
+abbrev pub IsBesideByCon : Normal → (ℕ → Type 0) → List (List Elem) → ℕ → ℕ → Type 0
+IsBesideByCon n Up clauses a m =
+    (k : ℕ) × (k < length n.n1) × IsBesideLeft Up clauses a (left_of n.n1 k) m
 
 -- by Con with one of the axioms that are filed under an atom
-abbrev pub IsBesideByFiled : Normal → List (List ℕ) → List (List Elem) → ℕ → ℕ → ℕ → Type 0
-IsBesideByFiled n filed clauses a at m =
-    (at < n.atoms) × IsBesideByOne n clauses a (filed_at filed n.atoms at) m
+abbrev pub IsBesideByFiled : Normal → List (List ℕ) → (ℕ → Type 0) → List (List Elem) → ℕ → ℕ → ℕ → Type 0
+IsBesideByFiled n filed Up clauses a at m =
+    (at < n.atoms) × IsBesideByOne n Up clauses a (filed_at filed n.atoms at) m
 
 -- by All, where the premise has an atom with an axiom: the clause has an existential
 abbrev pub IsBesideUniversal : Normal → List (List Elem) → ℕ → ℕ → Type 0
@@ -59,14 +62,9 @@ abbrev pub HasAllAtoms : List (List Elem) → List ℕ → Type 0
 HasAllAtoms clauses numbers = (a n : ℕ) → HasElem clauses (Plain a) n → OneOf a numbers
 
 -- the clause can be of use beside this element of a premise
-abbrev pub IsBeside : Normal → List (List Elem) → Elem → ℕ → Type 0
-IsBeside n clauses (Plain a) m = IsBesideByCon n clauses a m ⊎ IsBesideUniversal n clauses a m
-IsBeside n clauses (Exist r k) m = IsBesideExist n clauses m
-
--- the element at place i of the premise is eligible, and the clause can be of use beside it
-abbrev pub IsBesideAt : Normal → List (List Elem) → List Elem → ℕ → ℕ → Type 0
-IsBesideAt n clauses c i m = Eligible n (slice_index_or c i (Plain 0)) c
-    × IsBeside n clauses (slice_index_or c i (Plain 0)) m
+abbrev pub IsBeside : Normal → (ℕ → Type 0) → List (List Elem) → Elem → ℕ → Type 0
+IsBeside n Up clauses (Plain a) m = IsBesideByCon n Up clauses a m ⊎ IsBesideUniversal n clauses a m
+IsBeside n Up clauses (Exist r k) m = IsBesideExist n clauses m
 
 -- live numbers that don't wait
 abbrev pub AreTakenUp : List ℕ → List ℕ → List ℕ → Type 0

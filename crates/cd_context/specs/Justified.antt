@@ -3,8 +3,8 @@ use Rattle.std.specs.Prelude.{ℕ, List, [], ◌∷◌, reverse}
 use Rattle.cd_base.specs.Lists.{OneOf, HasNoRepeats}
 use Rattle.cd_base.specs.declared.normal.Normal.{Normal}
 use Rattle.cd_clause.specs.declared.elem.Elem.{Elem}
-use Rattle.cd_clause.specs.declared.elem.Elem.TheVariants.{Plain, Exist}
-use Rattle.cd_clause.specs.Derivations.{Derived, HasDerived, HasSure, IsStart, Reachable, Redundant}
+use Rattle.cd_clause.specs.declared.elem.Elem.TheVariants.{Exist}
+use Rattle.cd_clause.specs.Derivations.{Derived, HasCase, HasDerived, HasSure, IsStart, Reachable, Redundant}
 use Rattle.cd_rules.specs.Facts.{ToldFacts, ConcludesFrom}
 use Rattle.cd_store.specs.Store.{IsStore}
 use Rattle.cd_context.specs.declared.facts.Fact.{Fact}
@@ -18,7 +18,7 @@ abbrev pub Justified : Normal → List ℕ → Fact → Type 0
 Justified n key Start = IsStart n key
 Justified n key (Link h r) = Reachable n h × HasDerived n h (Exist r key)
 Justified n key (Back r k a) =
-    Reachable n key × HasDerived n key (Exist r k) × HasDerived n k (Plain a)
+    Reachable n key × HasDerived n key (Exist r k) × HasCase n k a
 Justified n key (Sure r k a) =
     Reachable n key × HasDerived n key (Exist r k) × HasSure n k a
 Justified n key (Dead r k) = Reachable n key × HasDerived n key (Exist r k) × Derived n k []
@@ -62,7 +62,7 @@ abbrev pub StoredDerived : Type 0
 StoredDerived = (n : Normal) (s : State) → IsContext n s → (c : List Elem) → OneOf c s.clauses
     → Derived n s.key c
 
--- what a context owes goes to a key that can be reached, and is justified there
+-- what a closed context owes goes to a key that can be reached, and is justified there
 abbrev pub OwedJustified : Type 0
-OwedJustified = (n : Normal) (s : State) → IsContext n s → (note : Note) → Owes n s note
-    → Reachable n note.key × Justified n note.key note.fact
+OwedJustified = (n : Normal) (s : State) → IsContext n s → ClosedLocally n s → (note : Note)
+    → Owes n s note → Reachable n note.key × Justified n note.key note.fact

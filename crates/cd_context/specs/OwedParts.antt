@@ -1,5 +1,5 @@
 -- What one clause, one of its elements or one link adds to what a context owes. `own` is the key of the context.
-use Rattle.std.specs.Prelude.{◌≡◌, ℕ, ◌≤◌, ◌⊎◌, ◌↔◌, Bool, true, false, List, [], ◌∷◌, slice_index_or}
+use Rattle.std.specs.Prelude.{◌≡◌, ℕ, ◌≤◌, ◌⊎◌, ◌↔◌, Bool, true, false, List, [], ◌∷◌}
 use Rattle.cd_base.specs.Lists.{OneOf, SameSet}
 use Rattle.cd_base.specs.Normal.{Under}
 use Rattle.cd_base.specs.declared.normal.Normal.{Normal}
@@ -53,16 +53,6 @@ IsUsefulNote n own a alone f note = IsOfUse n a f.role × IsAtomNote own a alone
 abbrev pub IsAtomTold : Normal → List ℕ → List Elem → ℕ → LinkFact → Note → Type 0
 IsAtomTold n own c a f note =
     Eligible n (Plain a) c × ((alone : Bool) × IsAlone c a alone × IsUsefulNote n own a alone f note)
-
--- the link for the existential at this place, where it is eligible
-abbrev pub IsLinkAt : Normal → List ℕ → List Elem → ℕ → Note → Type 0
-IsLinkAt n own c i note = (r : ℕ) × (k : List ℕ) × (slice_index_or c i (Plain 0) ≡ Exist r k)
-    × Eligible n (Exist r k) c × IsLinkNote own r k note
-
--- the fact of the atom at this place, where it is eligible, to one of these links
-abbrev pub IsToldAt : Normal → List ℕ → List LinkFact → List Elem → ℕ → Note → Type 0
-IsToldAt n own links c i note = (a : ℕ) × (slice_index_or c i (Plain 0) ≡ Plain a)
-    × ((f : LinkFact) × OneOf f links × IsAtomTold n own c a f note)
 
 -- the link for an eligible existential of the clause
 abbrev pub IsLinkOf : Normal → List ℕ → List Elem → Note → Type 0

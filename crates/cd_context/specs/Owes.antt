@@ -6,7 +6,7 @@ use Rattle.cd_base.specs.declared.normal.Normal.{Normal}
 use Rattle.cd_base.specs.declared.normal.Triple.{Triple}
 use Rattle.cd_clause.specs.declared.elem.Elem.{Elem}
 use Rattle.cd_clause.specs.declared.elem.Elem.TheVariants.{Plain, Exist}
-use Rattle.cd_clause.specs.Elements.{Eligible}
+use Rattle.cd_clause.specs.Elements.{Eligible, IsCase}
 use Rattle.cd_context.specs.declared.facts.Fact.TheVariants.{Link, Back, Sure, Dead}
 use Rattle.cd_context.specs.declared.facts.Note.{Note}
 use Rattle.cd_context.specs.State.{State, live_of}
@@ -22,8 +22,7 @@ pub data Owes (n : Normal) (s : State) (note : Note) : Type 0 where
   owes_link : (r : ℕ) (k : List ℕ) (c : List Elem) → OneOf c (live_of s) → Eligible n (Exist r k) c
       → note ≡ record { key = k; fact = Link s.key r } → Owes n s note
   owes_back : (h : List ℕ) (r : ℕ) (c : List Elem) (t : Triple) → IsLinked s h r
-      → OneOf c (live_of s) → Eligible n (Plain t.atom) c → (SameSet c (Plain t.atom ∷ []) → ⊥)
-      → OneOf t n.n3 → Under n.n5 r t.role
+      → OneOf c (live_of s) → IsCase n t.atom c → OneOf t n.n3 → Under n.n5 r t.role
       → note ≡ record { key = h; fact = Back r s.key t.atom } → Owes n s note
   owes_sure : (h : List ℕ) (r : ℕ) (c : List Elem) (t : Triple) → IsLinked s h r
       → OneOf c (live_of s) → SameSet c (Plain t.atom ∷ []) → OneOf t n.n3 → Under n.n5 r t.role

@@ -11,19 +11,20 @@ ghost use Rattle.cd_clause.specs.declared.elem.Elem.{Elem};
 ghost use Rattle.cd_clause.specs.declared.elem.Elem.TheVariants.{Plain};
 ghost use Rattle.cd_index.specs.Index.{IsFiling};
 ghost use Rattle.cd_rules.specs.LookUps.{AreNumbers, HasAllWith};
-ghost use Rattle.cd_context.specs.Beside.{AreEnough, HasAllAtoms, IsBeside, IsBesideAt, IsBesideByCon, IsBesideByFiled, IsBesideByOne, IsBesideByUniversal, IsBesideExist, IsBesideLeft, IsBesideUniversal, IsHad};
+ghost use Rattle.cd_context.specs.Beside.{AreEnough, HasAllAtoms, IsBeside, IsBesideByCon, IsBesideByFiled, IsBesideByOne, IsBesideByUniversal, IsBesideExist, IsBesideLeft, IsBesideUniversal, IsHad, Stands};
 ghost use Rattle.cd_context.specs.Waits.{numbers};
 ghost use Rattle.cd_store.specs.LookUps.{Gains, HasElem};
 
 use crate::waiting::Waiting;
 use cd_base::{Atom, Memory};
-use cd_clause::{Clause, Elem, eligible};
+use cd_clause::{Clause, Elem, greatest};
 use cd_index::Index;
 use cd_rules::look_ups::{alls, filed, with_left};
 use cd_store::Store;
 use std::alloc::Global;
 
-/// Where there are no more than so many axioms, no other way to find those that are of use is tried.
+/// Where there are no more than so many axioms, no other way to find those that are of use is tried; and of more clauses than that with an atom
+/// none is looked at.
 const FEW: usize = 8;
 
 /// Numbers of live clauses, among them each that can be of use beside the premise and doesn't wait. The premise's own is left out.
@@ -45,7 +46,15 @@ pub(crate) fn beside(
         (numbers waiting.now) premise others.items) }
 {
     let mut found = Vec::new(alloc);
-    push_beside(alloc, index, store, &store.clauses()[premise], &mut found)?;
+    push_beside(
+        alloc,
+        index,
+        store,
+        waiting,
+        premise,
+        &store.clauses()[premise],
+        &mut found,
+    )?;
     put_in_order(&mut found);
     let others = taken_up(alloc, found.as_slice(), store, waiting, premise)?;
     Ok(others)
@@ -97,61 +106,51 @@ fn is_taken_up(store: &Store, waiting: &Waiting, premise: usize, number: usize) 
     store.is_live(number)
 }
 
-/// Appends what is beside the eligible elements of the clause, which is stored.
+/// Appends what is beside the greatest element of the premise, which is this clause: the rules work on no other.
 fn push_beside(
     alloc: Global,
     index: &Index,
     store: &Store,
+    waiting: &Waiting,
+    premise: usize,
     clause: &Clause,
     found: &mut Vec<usize>,
 ) -> Result<(), Memory>
-    requires { (e : Elem) → OneOf e clause.now → IsHad store.now.clauses e }
+    requires { (e : Elem) → OneOf e clause.now → IsHad (Stands store.now.live (numbers waiting.now) premise) store.now.clauses e }
     ensures { OnOk result (Gains (λ m. (e : Elem) × Eligible index.now.normal e clause.now
-        × IsBeside index.now.normal store.now.clauses e m) found.old.items found.new.items) }
+        × IsBeside index.now.normal (Stands store.now.live (numbers waiting.now) premise) store.now.clauses e m) found.old.items found.new.items) }
 {
-    let count = clause.elems().len();
-    'places: for i in 0..count {
-        push_beside_at(alloc, index, store, clause, i, found)?;
-    }
-    Ok(())
+    let Some(i) = greatest(clause, index.normal()) else {
+        return Ok(());
+    };
+    push_beside_elem(
+        alloc,
+        index,
+        store,
+        waiting,
+        premise,
+        &clause.elems()[i],
+        found,
+    )
 }
 
-/// Appends what is beside the element at place `i` of the clause, which is stored, where that element is eligible: the rules work on no
-/// other.
-fn push_beside_at(
-    alloc: Global,
-    index: &Index,
-    store: &Store,
-    clause: &Clause,
-    i: usize,
-    found: &mut Vec<usize>,
-) -> Result<(), Memory>
-    requires place { i < length clause.now }
-    requires had { (e : Elem) → OneOf e clause.now → IsHad store.now.clauses e }
-    ensures { OnOk result (Gains (IsBesideAt index.now.normal store.now.clauses clause.now i)
-        found.old.items found.new.items) }
-{
-    if eligible(clause, i, index.normal()) {
-        push_beside_elem(alloc, index, store, &clause.elems()[i], found)?;
-    }
-    Ok(())
-}
-
-/// Appends what is beside an element that a stored clause has.
+/// Appends what is beside an element that the premise has.
 fn push_beside_elem(
     alloc: Global,
     index: &Index,
     store: &Store,
+    waiting: &Waiting,
+    premise: usize,
     elem: &Elem,
     found: &mut Vec<usize>,
 ) -> Result<(), Memory>
-    requires { IsHad store.now.clauses elem.now }
-    ensures { OnOk result (Gains (IsBeside index.now.normal store.now.clauses elem.now)
+    requires { IsHad (Stands store.now.live (numbers waiting.now) premise) store.now.clauses elem.now }
+    ensures { OnOk result (Gains (IsBeside index.now.normal (Stands store.now.live (numbers waiting.now) premise) store.now.clauses elem.now)
         found.old.items found.new.items) }
 {
     match elem {
         Elem::Plain(atom) => {
-            push_by_con(alloc, index, store, *atom, found)?;
+            push_by_con(alloc, index, store, waiting, premise, *atom, found)?;
             push_universal(index, store, *atom, found)?;
             Ok(())
         }
@@ -291,20 +290,22 @@ fn push_by_con(
     alloc: Global,
     index: &Index,
     store: &Store,
+    waiting: &Waiting,
+    premise: usize,
     atom: Atom,
     found: &mut Vec<usize>,
 ) -> Result<(), Memory>
-    requires { IsHad store.now.clauses (Plain atom) }
-    ensures { OnOk result (Gains (IsBesideByCon index.now.normal store.now.clauses atom)
+    requires { IsHad (Stands store.now.live (numbers waiting.now) premise) store.now.clauses (Plain atom) }
+    ensures { OnOk result (Gains (IsBesideByCon index.now.normal (Stands store.now.live (numbers waiting.now) premise) store.now.clauses atom)
         found.old.items found.new.items) }
 {
     let all = with_left(index, atom);
     let own = filed(index, atom);
     if own.len() < all.len() {
-        push_by_fewer(alloc, index, store, all, atom, found)?;
+        push_by_fewer(alloc, index, store, waiting, premise, all, atom, found)?;
         return Ok(());
     }
-    push_by_axioms(index, store, all, atom, found)?;
+    push_by_axioms(index, store, waiting, premise, all, atom, found)?;
     Ok(())
 }
 
@@ -313,6 +314,8 @@ fn push_by_fewer(
     alloc: Global,
     index: &Index,
     store: &Store,
+    waiting: &Waiting,
+    premise: usize,
     all: &[usize],
     atom: Atom,
     found: &mut Vec<usize>,
@@ -321,17 +324,25 @@ fn push_by_fewer(
     requires every { HasAllWith index.now.normal.n1 atom all.now }
     requires filing { atom < index.now.normal.atoms
         → IsFiling index.now.normal.n1 index.now.normal.atoms index.now.filed }
-    requires had { IsHad store.now.clauses (Plain atom) }
-    ensures { OnOk result (Gains (IsBesideByCon index.now.normal store.now.clauses atom)
+    requires had { IsHad (Stands store.now.live (numbers waiting.now) premise) store.now.clauses (Plain atom) }
+    ensures { OnOk result (Gains (IsBesideByCon index.now.normal (Stands store.now.live (numbers waiting.now) premise) store.now.clauses atom)
         found.old.items found.new.items) }
 {
     if let Some(atoms) = numbers_in_place_of(alloc, store, all.len())? {
         if are_fewer(index, atoms.as_slice(), all.len()) {
-            push_by_filed(index, store, atoms.as_slice(), atom, found)?;
+            push_by_filed(
+                index,
+                store,
+                waiting,
+                premise,
+                atoms.as_slice(),
+                atom,
+                found,
+            )?;
             return Ok(());
         }
     }
-    push_by_axioms(index, store, all, atom, found)?;
+    push_by_axioms(index, store, waiting, premise, all, atom, found)?;
     Ok(())
 }
 
@@ -361,6 +372,8 @@ fn count_filed(index: &Index, number: u64) -> usize {
 fn push_by_filed(
     index: &Index,
     store: &Store,
+    waiting: &Waiting,
+    premise: usize,
     atoms: &[u64],
     atom: Atom,
     found: &mut Vec<usize>,
@@ -368,12 +381,12 @@ fn push_by_filed(
     requires all { HasAllAtoms store.now.clauses atoms.now }
     requires filing { atom < index.now.normal.atoms
         → IsFiling index.now.normal.n1 index.now.normal.atoms index.now.filed }
-    requires had { IsHad store.now.clauses (Plain atom) }
-    ensures { OnOk result (Gains (IsBesideByCon index.now.normal store.now.clauses atom)
+    requires had { IsHad (Stands store.now.live (numbers waiting.now) premise) store.now.clauses (Plain atom) }
+    ensures { OnOk result (Gains (IsBesideByCon index.now.normal (Stands store.now.live (numbers waiting.now) premise) store.now.clauses atom)
         found.old.items found.new.items) }
 {
     'atoms: for i in 0..atoms.len() {
-        push_by_number(index, store, atoms[i], atom, found)?;
+        push_by_number(index, store, waiting, premise, atoms[i], atom, found)?;
     }
     Ok(())
 }
@@ -382,19 +395,29 @@ fn push_by_filed(
 fn push_by_number(
     index: &Index,
     store: &Store,
+    waiting: &Waiting,
+    premise: usize,
     number: u64,
     atom: Atom,
     found: &mut Vec<usize>,
 ) -> Result<(), Memory>
-    requires { IsHad store.now.clauses (Plain atom) }
+    requires { IsHad (Stands store.now.live (numbers waiting.now) premise) store.now.clauses (Plain atom) }
     ensures { OnOk result (Gains
-        (IsBesideByFiled index.now.normal index.now.filed store.now.clauses atom number)
+        (IsBesideByFiled index.now.normal index.now.filed (Stands store.now.live (numbers waiting.now) premise) store.now.clauses atom number)
         found.old.items found.new.items) }
 {
     let Some(at) = atom_of(index, number) else {
         return Ok(());
     };
-    push_by_axioms(index, store, filed(index, at), atom, found)?;
+    push_by_axioms(
+        index,
+        store,
+        waiting,
+        premise,
+        filed(index, at),
+        atom,
+        found,
+    )?;
     Ok(())
 }
 
@@ -402,41 +425,45 @@ fn push_by_number(
 fn push_by_axioms(
     index: &Index,
     store: &Store,
+    waiting: &Waiting,
+    premise: usize,
     axioms: &[usize],
     atom: Atom,
     found: &mut Vec<usize>,
 ) -> Result<(), Memory>
     requires numbers { AreNumbers index.now.normal.n1 axioms.now }
-    requires had { IsHad store.now.clauses (Plain atom) }
-    ensures { OnOk result (Gains (IsBesideByOne index.now.normal store.now.clauses atom axioms.now)
+    requires had { IsHad (Stands store.now.live (numbers waiting.now) premise) store.now.clauses (Plain atom) }
+    ensures { OnOk result (Gains (IsBesideByOne index.now.normal (Stands store.now.live (numbers waiting.now) premise) store.now.clauses atom axioms.now)
         found.old.items found.new.items) }
 {
     let all = index.normal().n1.items();
     'axioms: for i in 0..axioms.len() {
         let conj = &all[axioms[i]];
-        push_by_left(store, conj.left.items(), atom, found)?;
+        push_by_left(store, waiting, premise, conj.left.items(), atom, found)?;
     }
     Ok(())
 }
 
-/// Appends what is beside the atom by Con with this left side. A look-up for each atom there, and the clauses with the others where the
-/// axiom can fire.
+/// Appends what is beside the atom by Con with this left side. The cost of `may_all_stand`, and, where the axiom can fire, the clauses with
+/// the other atoms, with two look-ups for each.
 fn push_by_left(
     store: &Store,
+    waiting: &Waiting,
+    premise: usize,
     left: &[Atom],
     atom: Atom,
     found: &mut Vec<usize>,
 ) -> Result<(), Memory>
-    requires { IsHad store.now.clauses (Plain atom) }
-    ensures { OnOk result (Gains (IsBesideLeft store.now.clauses atom left.now) found.old.items
+    requires { IsHad (Stands store.now.live (numbers waiting.now) premise) store.now.clauses (Plain atom) }
+    ensures { OnOk result (Gains (IsBesideLeft (Stands store.now.live (numbers waiting.now) premise) store.now.clauses atom left.now) found.old.items
         found.new.items) }
 {
+    if !may_all_stand(store, waiting, premise, left) {
+        return Ok(());
+    }
     let Some(place) = place_of(left, atom) else {
         return Ok(());
     };
-    if !may_all_stand(store, left) {
-        return Ok(());
-    }
     push_others(store, left, place, found)?;
     Ok(())
 }
@@ -455,16 +482,60 @@ fn place_of(atoms: &[Atom], atom: Atom) -> Option<usize>
     None
 }
 
-/// Whether each of the atoms may stand in a stored clause: true wherever each does. Two look-ups for each.
-fn may_all_stand(store: &Store, atoms: &[Atom]) -> bool
-    ensures { ((b : ℕ) → OneOf b atoms.now → IsHad store.now.clauses (Plain b)) → result ≡ true }
+/// Whether each of the atoms may stand in the premise or in a clause that was taken up: true wherever each does.
+///
+/// They are asked for from both ends. The atoms of a wide left side mostly come in the order in which they stand there, or in the other, so
+/// that the last to come is among the first that are asked for. Two look-ups for each that is asked for, and a look at a few clauses.
+fn may_all_stand(store: &Store, waiting: &Waiting, premise: usize, atoms: &[Atom]) -> bool
+    ensures { ((b : ℕ) → OneOf b atoms.now → IsHad (Stands store.now.live (numbers waiting.now) premise) store.now.clauses (Plain b))
+        → result ≡ true }
 {
-    'atoms: for i in 0..atoms.len() {
-        if !store.may_have(atoms[i]) {
+    let count = atoms.len();
+    'atoms: for i in 0..count.div_ceil(2) {
+        if !may_stand(store, waiting, premise, atoms[i]) {
+            return false;
+        }
+        if !may_stand(store, waiting, premise, atoms[count - 1 - i]) {
             return false;
         }
     }
     true
+}
+
+/// Whether the atom may stand in the premise or in a clause that was taken up: true wherever it does. Two look-ups, and a look at a few
+/// clauses.
+fn may_stand(store: &Store, waiting: &Waiting, premise: usize, atom: Atom) -> bool
+    ensures { IsHad (Stands store.now.live (numbers waiting.now) premise) store.now.clauses (Plain atom) → result ≡ true }
+{
+    let (ending, going_on) = store.with_atom(atom);
+    may_have_one(store, waiting, premise, ending) || may_have_one(store, waiting, premise, going_on)
+}
+
+/// Whether the premise or a clause that was taken up has one of these numbers: true wherever one has, and of more than a few. Logarithmic in
+/// the live clauses.
+fn may_have_one(store: &Store, waiting: &Waiting, premise: usize, among: &[usize]) -> bool
+    ensures { (m : ℕ) → OneOf m among.now → Stands store.now.live (numbers waiting.now) premise m
+        → result ≡ true }
+{
+    if FEW < among.len() {
+        return true;
+    }
+    'numbers: for i in 0..among.len() {
+        if stands(store, waiting, premise, among[i]) {
+            return true;
+        }
+    }
+    false
+}
+
+/// Whether the number is that of the premise or of a clause that was taken up. Logarithmic in the live clauses.
+fn stands(store: &Store, waiting: &Waiting, premise: usize, number: usize) -> bool
+    ensures { Stands store.now.live (numbers waiting.now) premise number → result ≡ true }
+{
+    if number == premise {
+        return true;
+    }
+    is_taken_up(store, waiting, premise, number)
 }
 
 /// Appends the clauses with the atoms at the other places. Two look-ups for each.

@@ -6,7 +6,7 @@ pub fn stored_is_derived()
     ensures { StoredDerived }
 {}
 
-/// Whatever a context owes goes to a key that can be reached, and is justified in its context.
+/// Whatever a closed context owes goes to a key that can be reached, and is justified in its context.
 pub fn owed_is_justified()
     ensures { OwedJustified }
 {}

@@ -1,20 +1,20 @@
-//! The notes that one clause makes: a link for each existential that is eligible, and for each context that has an existential to this
-//! one a back for each atom that is eligible and of use there, a sure where the atom is alone, or a dead where the clause is empty.
-ghost use Rattle.std.specs.Prelude.{◌≡◌, ◌↔◌, ◌<◌, length, true, IsOk};
+//! The notes that one clause makes by its greatest element: a link for an existential, and of an atom that is of use there, for each context
+//! that has an existential to this one, a sure where it is alone in the clause, and else a back; or a dead where the clause is empty.
+ghost use Rattle.std.specs.Prelude.{◌≡◌, ◌↔◌, true, IsOk};
 ghost use Rattle.cd_base.specs.Lists.{OneOf};
 ghost use Rattle.cd_rules.specs.LookUps.{AreAtAtom};
 ghost use Rattle.cd_base.specs.Appends.{Appends};
-ghost use Rattle.cd_context.specs.OwedParts.{IsUnderOne, IsLinkNote, IsDeadNote, IsUsefulNote, IsAtomNote, IsLinkAt, IsToldAt, IsLinkOf, IsToldBy, atom_fact};
+ghost use Rattle.cd_context.specs.OwedParts.{IsUnderOne, IsLinkNote, IsDeadNote, IsUsefulNote, IsAtomNote, IsLinkOf, IsToldBy, atom_fact};
 ghost use Rattle.cd_context.specs.declared.facts.LinkFact.{LinkFact};
 
 use crate::facts::{Fact, LinkFact, Note};
 use crate::live::is_single;
 use cd_base::{Atom, Key, Memory, Role, Triple};
-use cd_clause::{Clause, Elem, eligible};
+use cd_clause::{Clause, Elem, greatest};
 use cd_index::Index;
 use cd_rules::look_ups::{backs, is_under};
 
-/// Appends a link for each existential of the clause that is eligible. Linear in the clause, each time once more for an existential.
+/// Appends a link for the greatest element of the clause, if that is an existential. Linear in the clause.
 pub(crate) fn note_links(
     index: &Index,
     key: &Key,
@@ -24,34 +24,12 @@ pub(crate) fn note_links(
     ensures { Appends OneOf (IsLinkOf index.now.normal key.now clause.now)
         (IsOk result) out.old.items out.new.items }
 {
-    let count = clause.elems().len();
-    'places: for i in 0..count {
-        note_link_at(index, key, clause, i, out)?;
-    }
-    Ok(())
-}
-
-/// Appends a link where the element at place `i` is an existential that is eligible. Linear in the clause.
-fn note_link_at(
-    index: &Index,
-    key: &Key,
-    clause: &Clause,
-    i: usize,
-    out: &mut Vec<Note>,
-) -> Result<(), Memory>
-    requires { i < length clause.now }
-    ensures { Appends OneOf (IsLinkAt index.now.normal key.now clause.now i)
-        (IsOk result) out.old.items out.new.items }
-{
+    let Some(i) = greatest(clause, index.normal()) else {
+        return Ok(());
+    };
     match &clause.elems()[i] {
         Elem::Plain(_) => Ok(()),
-        Elem::Exist(role, to) => {
-            if eligible(clause, i, index.normal()) {
-                note_link(key, *role, to, out)
-            } else {
-                Ok(())
-            }
-        }
+        Elem::Exist(role, to) => note_link(key, *role, to, out),
     }
 }
 
@@ -67,8 +45,8 @@ fn note_link(key: &Key, role: Role, to: &Key, out: &mut Vec<Note>) -> Result<(),
     Ok(())
 }
 
-/// Appends what the clause tells these contexts that have an existential to this one. Linear in the clause, each time once more for an
-/// atom, and in the links where it is of use by some axiom.
+/// Appends what the clause tells these contexts that have an existential to this one: of its greatest element, if that is an atom, backs, or
+/// sures where it is alone; and deads of the empty clause. Linear in the clause, and in the links where the atom is of use by some axiom.
 pub(crate) fn tell(
     index: &Index,
     key: &Key,
@@ -79,39 +57,14 @@ pub(crate) fn tell(
     ensures { Appends OneOf (IsToldBy index.now.normal key.now links.now clause.now)
         (IsOk result) out.old.items out.new.items }
 {
-    let count = clause.elems().len();
-    if count == 0 {
+    let Some(i) = greatest(clause, index.normal()) else {
         return tell_deads(key, links, out);
-    }
-    'places: for i in 0..count {
-        tell_at(index, key, clause, i, links, out)?;
-    }
-    Ok(())
-}
-
-/// Appends what is told of the atom at place `i`, where the element there is one that is eligible: backs, or sures where it is alone.
-/// Linear in the clause, and in the links where the atom is of use by some axiom.
-fn tell_at(
-    index: &Index,
-    key: &Key,
-    clause: &Clause,
-    i: usize,
-    links: &[LinkFact],
-    out: &mut Vec<Note>,
-) -> Result<(), Memory>
-    requires { i < length clause.now }
-    ensures { Appends OneOf (IsToldAt index.now.normal key.now links.now clause.now i)
-        (IsOk result) out.old.items out.new.items }
-{
+    };
     match &clause.elems()[i] {
         Elem::Exist(_, _) => Ok(()),
         Elem::Plain(atom) => {
-            if eligible(clause, i, index.normal()) {
-                let alone = is_single(clause, *atom);
-                tell_atom(index, key, *atom, alone, links, out)
-            } else {
-                Ok(())
-            }
+            let alone = is_single(clause, *atom);
+            tell_atom(index, key, *atom, alone, links, out)
         }
     }
 }
@@ -167,12 +120,14 @@ fn tell_one(
 fn is_under_one(index: &Index, axioms: &[Triple], role: Role) -> bool
     ensures { (result ≡ true) ↔ IsUnderOne index.now.normal axioms.now role }
 {
-    match axioms {
-        [] => false,
-        [axiom, others @ ..] => {
-            is_under(index, role, axiom.role) || is_under_one(index, others, role)
+    let mut rest = axioms;
+    'axioms: while let [axiom, others @ ..] = rest {
+        if is_under(index, role, axiom.role) {
+            return true;
         }
+        rest = others;
     }
+    false
 }
 
 /// Appends the fact of the atom for the link. Linear in both keys.

@@ -2,9 +2,10 @@
 ghost use Rattle.std.specs.Prelude.{◌≡◌, ◌<◌, ◌⊎◌, ◌↔◌, ℕ, List, length, filter, IfOk, OnOk};
 ghost use Rattle.cd_base.specs.Keys.{is_named};
 ghost use Rattle.cd_base.specs.Lists.{OneOf};
+ghost use Rattle.cd_clause.specs.Elements.{IsCase};
 ghost use Rattle.cd_clause.specs.Numbers.{picked};
 ghost use Rattle.cd_clause.specs.declared.elem.Elem.{Elem};
-ghost use Rattle.cd_context.specs.OpenNames.{IsOpenIn, IsOpenName};
+ghost use Rattle.cd_context.specs.OpenNames.{IsOpenName};
 
 use cd_base::{Atom, Memory, Normal};
 use cd_clause::Clause;
@@ -42,7 +43,7 @@ fn push_all_open(
     requires { (n : ℕ) → OneOf n live.now → n < length clauses.now }
     ensures { OnOk result ((b : ℕ) → OneOf b atoms.new.items
         ↔ (OneOf b atoms.old.items
-        ⊎ ((c : List Elem) × OneOf c (picked clauses.now live.now) × IsOpenIn normal.now c b))) }
+        ⊎ ((c : List Elem) × OneOf c (picked clauses.now live.now) × IsCase normal.now b c))) }
 {
     for i in 0..live.len() {
         let at = live[i];
@@ -51,10 +52,11 @@ fn push_all_open(
     Ok(())
 }
 
-/// Appends the atom that is the greatest element of the clause, if the clause has others. Constant time where it has none.
+/// Appends the atom that is the greatest element of the clause, if the clause has others. Constant time where it has none, and else linear in
+/// the clause.
 fn push_open(normal: &Normal, clause: &Clause, atoms: &mut Vec<u32>) -> Result<(), Memory>
     ensures { OnOk result ((b : ℕ) → OneOf b atoms.new.items
-        ↔ (OneOf b atoms.old.items ⊎ IsOpenIn normal.now clause.now b)) }
+        ↔ (OneOf b atoms.old.items ⊎ IsCase normal.now b clause.now)) }
 {
     if clause.elems().len() < 2 {
         return Ok(());

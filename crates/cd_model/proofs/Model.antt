@@ -13,7 +13,8 @@ use Rattle.cd_clause.specs.declared.elem.Elem.{Elem}
 use Rattle.cd_clause.specs.declared.elem.Elem.TheVariants.{Plain, Exist}
 use Rattle.cd_clause.specs.Covering.{is_as_strong}
 use Rattle.cd_clause.specs.Elements.{rest}
-use Rattle.cd_clause.specs.Rules.{Rests, Concludes, told_by, by_init, by_neg, by_con, by_ex, by_back, by_dead, by_all}
+use Rattle.cd_clause.specs.Rules.{Rests, Concludes, told_by, by_init, by_neg, by_con, by_ex, by_back, by_sure, by_dead, by_all}
+use Rattle.cd_clause.proofs.Elements.{alone_cases}
 use Rattle.cd_clause.proofs.Strengths.{IsPart, part_trans, part_with, part_within, strong_atom, strong_exist, strong_from}
 use Rattle.cd_model.specs.Canonical.{Listing, chosen, has_empty, canonical, IsClosure, RolesInRange, IsOpen}
 use Rattle.cd_model.specs.Saturated.{Saturated}
@@ -121,15 +122,25 @@ module _ (n : Normal) (keys : List (List ℕ)) (live : List ℕ → List (List E
       let w : Made n (Ch h) (live h) (Exist r k) = made n (live h) o (Exist r k) c in
       let kn = reach h known o r k c in
       let v : Made n (Ch k) (live k) (Plain t.atom) = made n (live k) kn.1 (Plain t.atom) a in
-      let more : List ℕ = key_with (negated t.atom) k in
-      let d : List Elem = Plain t.other ∷ Exist r more ∷ rest (Exist r k) w.clause in
-      let s = rule_hits h known o d (by_back t w.clause r k m w.isin w.eligible (v.clause, (kn.0, v.isin), v.eligible) u (λ x j. j, λ x j. j)) in
-      elim s.1 [
-        | inl q ↦ atom_chosen h known o t.other s.0 q s.2
-        | inr p ↦ elim p [
-          | inl q ↦ absurd (neg_not k kn.0 kn.1 t.atom (has_literal h known o r k w (negated t.atom) s.0 q s.2) a)
-          | inr j ↦ absurd (w.rest_not s.0 j s.2)
-        ]
+      elim (alone_cases (Plain t.atom) v.clause v.eligible.isin) [
+        | inl alone ↦
+            (let d : List Elem = Plain t.other ∷ rest (Exist r k) w.clause in
+            let s = rule_hits h known o d (by_sure t w.clause r k m w.isin w.eligible (v.clause, (kn.0, v.isin), alone) u (λ x j. j, λ x j. j)) in
+            elim s.1 [
+              | inl q ↦ atom_chosen h known o t.other s.0 q s.2
+              | inr j ↦ absurd (w.rest_not s.0 j s.2)
+            ])
+        | inr others ↦
+            (let more : List ℕ = key_with (negated t.atom) k in
+            let d : List Elem = Plain t.other ∷ Exist r more ∷ rest (Exist r k) w.clause in
+            let s = rule_hits h known o d (by_back t w.clause r k m w.isin w.eligible (v.clause, (kn.0, v.isin), (v.eligible, others)) u (λ x j. j, λ x j. j)) in
+            elim s.1 [
+              | inl q ↦ atom_chosen h known o t.other s.0 q s.2
+              | inr p ↦ elim p [
+                | inl q ↦ absurd (neg_not k kn.0 kn.1 t.atom (has_literal h known o r k w (negated t.atom) s.0 q s.2) a)
+                | inr j ↦ absurd (w.rest_not s.0 j s.2)
+              ]
+            ])
       ]
 
 module _ (n : Normal) (below : ℕ → ℕ → Bool) (closure : IsClosure n below) (roles : RolesInRange n) (keys : List (List ℕ)) (live : List ℕ → List (List Elem)) (sat : Saturated n keys live) where

@@ -1,35 +1,18 @@
 -- The order of elements is total.
-use Rattle.std.proofs.Common.{◌≡◌, ◌&&◌, ℕ, ◌⊎◌, Bool, true, false, cond, List, [], ◌∷◌, eqb, ltb, refl, sym, ap, subst, inl, inr, eqb-true}
+use Rattle.std.proofs.Common.{◌≡◌, ◌&&◌, ℕ, ◌⊎◌, true, List, [], ◌∷◌, eqb, ltb, refl, sym, subst, inl, inr, eqb-true}
 use Rattle.std.proofs.lemmas.Bool.{cond_both, and_parts, false≢true}
 use Rattle.cd_base.specs.Ascending.{is_covered}
 use Rattle.cd_base.specs.Lists.{OneOf}
 use Rattle.cd_base.specs.declared.normal.Normal.{Normal}
-use Rattle.cd_base.specs.Keys.{is_named}
 use Rattle.cd_clause.specs.Dictionary.{is_at_most}
 use Rattle.cd_clause.specs.declared.elem.Elem.{Elem}
 use Rattle.cd_clause.specs.declared.elem.Elem.TheVariants.{Plain, Exist}
 use Rattle.cd_clause.specs.Elements.{rank, Eligible}
 use Rattle.cd_clause.specs.Covering.{is_as_strong}
 use Rattle.cd_clause.proofs.Dictionary.{at_most_refl, at_most_same, at_most_other, at_most_trans, at_most_antisym}
+use Rattle.cd_clause.proofs.Eligibles.{rank_apart}
 use Rattle.cd_clause.proofs.Strengths.{part_first}
 use Rattle.cd_model.specs.Canonical.{greatest_from, greatest}
-
-atoms_apart : (x x' : Bool) (a b : ℕ) → cond x (0 ∷ a ∷ []) (1 ∷ a ∷ []) ≡ cond x' (0 ∷ b ∷ []) (1 ∷ b ∷ []) → a ≡ b
-atoms_apart true true a b e = cc
-atoms_apart true false a b e = cc
-atoms_apart false true a b e = cc
-atoms_apart false false a b e = cc
-
-atom_exist_apart : (x : Bool) (a r : ℕ) (k : List ℕ) → cond x (0 ∷ a ∷ []) (1 ∷ a ∷ []) ≡ 2 ∷ r ∷ k → ⊥
-atom_exist_apart true a r k e = cc
-atom_exist_apart false a r k e = cc
-
--- no two elements have one rank
-pub rank_apart : (n : Normal) (e f : Elem) → rank n e ≡ rank n f → e ≡ f
-rank_apart n (Plain a) (Plain b) h = ap Plain (atoms_apart (is_named n a) (is_named n b) a b h)
-rank_apart n (Plain a) (Exist r k) h = absurd (atom_exist_apart (is_named n a) a r k h)
-rank_apart n (Exist r k) (Plain b) h = absurd (atom_exist_apart (is_named n b) b r k (sym h))
-rank_apart n (Exist r k) (Exist s l) h = cc
 
 -- the greatest element of a clause
 
@@ -43,10 +26,10 @@ pub le_trans : (n : Normal) (e f g : Elem) → Le n e f → Le n f g → Le n e 
 le_trans n e f g p q = at_most_trans (rank n e) (rank n f) (rank n g) p q
 
 -- what is at least as strong as an element is at most it
-exist_le : (r s : ℕ) (k l : List ℕ) → (eqb r s && is_covered ltb l k) ≡ true → is_at_most (2 ∷ r ∷ k) (2 ∷ s ∷ l) ≡ true
+exist_le : (r s : ℕ) (k l : List ℕ) → (eqb r s && is_covered ltb l k) ≡ true → is_at_most (1 ∷ r ∷ k) (1 ∷ s ∷ l) ≡ true
 exist_le r s k l h =
     let p = and_parts (eqb r s) (is_covered ltb l k) h in
-    at_most_same 2 2 (r ∷ k) (s ∷ l) refl (at_most_same r s k l (eqb-true r s p.0) (part_first l k p.1))
+    at_most_same 1 1 (r ∷ k) (s ∷ l) refl (at_most_same r s k l (eqb-true r s p.0) (part_first l k p.1))
 
 pub strong_le : (n : Normal) (e f : Elem) → is_as_strong e f ≡ true → Le n e f
 strong_le n (Plain a) (Plain b) h = subst (λ z. Le n (Plain a) (Plain z)) (eqb-true a b h) (at_most_refl (rank n (Plain a)))

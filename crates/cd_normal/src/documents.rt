@@ -14,12 +14,14 @@ use crate::axioms::all_give;
 use crate::maker::Maker;
 use cd_base::{Atom, Memory, Normal, Seq};
 use cd_meaning::{Axiom, Document, NOTHING, THING};
+use cd_ranks::told_ranks;
 use std::alloc::Global;
 
 /// The normal axioms of a document, by structural transformation. The atoms below the number of classes are these classes.
 ///
-/// Linear in the nodes of the document, but for a look-up of each operand of a disjointness. `normal_form` says which normal axioms they
-/// are: structural transformation, with a fresh atom for each use of an expression.
+/// Linear in the nodes of the document, but for a look-up of each operand of a disjointness and a sort of the classes by rank.
+/// `normal_form` says which normal axioms they are: structural transformation, with a fresh atom for each use of an expression. The ranks
+/// of the atoms (`cd_ranks`) are left open, since they change no answer.
 pub fn normalise(alloc: Global, document: &Document) -> Result<Normal, Memory>
     requires few { length document.now.classes + 6 * nodes document.now.axioms < 2 ^ 32 - 1 }
     ensures normal_form { IfOk result (λ normal. IsStructuralNormalForm document.now normal) }
@@ -40,7 +42,8 @@ pub fn normalise(alloc: Global, document: &Document) -> Result<Normal, Memory>
     let roles = document.roles.items().len() as u32;
     let maker = made(alloc, classes, document.axioms.items())?;
     let named = flags(alloc, classes, maker.next - classes)?;
-    Ok(packed(maker, named, roles))
+    let ranks = told_ranks(alloc, maker.next, classes, maker.n1.as_slice())?;
+    Ok(packed(maker, named, ranks, roles))
 }
 
 /// What the axioms give, and that all is in owl:Thing and nothing in owl:Nothing.
@@ -88,8 +91,8 @@ fn more_flags(made: &mut Vec<bool>, flag: bool, number: u32) -> Result<(), Memor
     Ok(())
 }
 
-/// The normal axioms that were made, with their numbers in range. Constant time.
-fn packed(maker: Maker, named: Vec<bool>, roles: u32) -> Normal
+/// The normal axioms that were made, with their numbers in range, and the ranks of the atoms. Constant time.
+fn packed(maker: Maker, named: Vec<bool>, ranks: Vec<u32>, roles: u32) -> Normal
     requires flags { length named.items ≡ maker.next }
     requires n1_within { IsTrue (list_all (has_atoms_below maker.next) maker.n1.items) }
     requires n2_within { IsTrue (list_all (is_triple_below maker.next roles) maker.n2.items) }
@@ -116,6 +119,7 @@ fn packed(maker: Maker, named: Vec<bool>, roles: u32) -> Normal
     Normal {
         atoms: next,
         named: Seq::of(named),
+        ranks: Seq::of(ranks),
         roles,
         n1: Seq::of(n1),
         n2: Seq::of(n2),

@@ -1,17 +1,14 @@
--- Atoms that are eligible in a clause.
-use Rattle.std.proofs.Common.{◌≡◌, ◌↔◌, ℕ, zero, suc, ◌+◌, ◌-◌, ◌<◌, ◌≤◌, ◌==◌, Bool, true, false, List, [], ◌∷◌, length, get_or, refl, sym, ◌∙◌, subst, inl, inr, arith}
-use Rattle.std.proofs.lemmas.Bool.{both_ways, cond_both, false≢true}
-use Rattle.std.specs.List.{remove}
-use Rattle.cd_base.specs.Lists.{OneOf, SameSet}
+-- Existentials of a clause, which are above its atoms.
+use Rattle.std.proofs.Common.{◌≡◌, ◌⊎◌, ◌++◌, ◌↔◌, ℕ, zero, suc, ◌+◌, ◌-◌, ◌==◌, Bool, true, false, List, [], ◌∷◌, length, get_or, refl, sym, ◌∙◌, subst, inl, inr, arith}
+use Rattle.std.proofs.lemmas.Bool.{false≢true}
+use Rattle.cd_base.specs.Lists.{OneOf}
 use Rattle.cd_base.specs.Ascending.{Ascending}
-use Rattle.cd_base.specs.Keys.{is_named}
 use Rattle.cd_base.specs.declared.normal.Normal.{Normal}
-use Rattle.cd_base.proofs.Members.{member_get, member_at}
-use Rattle.cd_clause.specs.Dictionary.{is_at_most}
-use Rattle.cd_clause.specs.Elements.{Eligible, is_before, rest}
+use Rattle.cd_base.proofs.Members.{member_get, member_cases, member_left, member_right}
+use Rattle.cd_clause.specs.Elements.{Eligible, is_before}
+use Rattle.cd_clause.proofs.Eligibles.{eligible_one}
 use Rattle.cd_clause.specs.declared.elem.Elem.{Elem}
 use Rattle.cd_clause.specs.declared.elem.Elem.TheVariants.{Plain, Exist}
-use Rattle.cd_rules.proofs.Without.{without_rest}
 
 -- the element is an existential
 abbrev IsExist : Elem → Type 0
@@ -23,10 +20,7 @@ HasExist c = (r : ℕ) × (k : List ℕ) × OneOf (Exist r k) c
 
 -- no atom is eligible beside an existential
 pub exist_above : (n : Normal) (a : ℕ) (c : List Elem) → HasExist c → Eligible n (Plain a) c → ⊥
-exist_above n a c h e =
-    cond_both (is_named n a) (0 ∷ a ∷ []) (1 ∷ a ∷ []) (λ z. is_at_most (2 ∷ h.0 ∷ h.1) z ≡ true → ⊥)
-    (λ t q. false≢true q) (λ t q. false≢true q)
-    (e.top (Exist h.0 h.1) h.2)
+exist_above n a c h e = false≢true (e.top (Exist h.0 h.1) h.2)
 
 -- what stands after an existential is one
 after_exist : (r : ℕ) (k : List ℕ) (f : Elem) → is_before (Exist r k) f ≡ true → IsExist f
@@ -57,38 +51,18 @@ pub last_place : (es : List Elem) (b : Bool) → b ≡ (length es == 0) → b �
 last_place [] b e f = absurd (false≢true (sym f ∙ e))
 last_place (x ∷ es) b e f = omega arith
 
--- an atom that stands at no place isn't in the clause
-pub at_no_place : (es : List Elem) (a : ℕ) (n : ℕ) → length es ≤ n → ((k : ℕ) → k < n → get_or es k (Plain 0) ≡ Plain a → ⊥) → OneOf (Plain a) es → ⊥
-at_no_place es a n l h m =
-    let w = member_at (Plain a) es m in
-    h w.0 (omega (arith, w.1)) (w.2 (Plain 0))
-
--- the clause without the place at which an eligible atom stands
-pub rest_at : (n : Normal) (a : ℕ) (c es out : List Elem) (i : ℕ) → es ≡ c → Ascending is_before c → i < length es → get_or es i (Plain 0) ≡ Plain a
-    → Eligible n (get_or c i (Plain 0)) c → out ≡ remove c i → Eligible n (Plain a) c × SameSet out (rest (Plain a) c)
-rest_at n a c es out i e s l q el r =
-    let q' : get_or c i (Plain 0) ≡ Plain a = subst (λ z. get_or z i (Plain 0) ≡ Plain a) e q in
-    let l' : i < length c = subst (λ z. i < length z) e l in (
-      subst (λ z. Eligible n z c) q' el,
-      subst (λ z. SameSet z (rest (Plain a) c)) (sym r) (subst (λ z. SameSet (remove c i) (rest z c)) q' (without_rest c i s l')),
-    )
-
--- an atom that stands at a place and isn't eligible there
-pub not_at : (n : Normal) (a : ℕ) (c es : List Elem) (i : ℕ) (b : Bool) → es ≡ c → get_or es i (Plain 0) ≡ Plain a → (b ≡ true) ↔ Eligible n (get_or c i (Plain 0)) c → b ≡ false → Eligible n (Plain a) c → ⊥
-not_at n a c es i b e q t f el =
-    let q' : get_or c i (Plain 0) ≡ Plain a = subst (λ z. get_or z i (Plain 0) ≡ Plain a) e q in
-    both_ways b f (t.1 (subst (λ z. Eligible n z c) (sym q') el))
-
--- the atom at place i, where it is eligible
-abbrev pub OfElem : Normal → List Elem → ℕ → ℕ → Type 0
-OfElem n c i a = (get_or c i (Plain 0) ≡ Plain a) × Eligible n (Plain a) c
-
--- the atoms that are eligible are those that are so at their places
-pub elem_eligible : (n : Normal) (c : List Elem) (a : ℕ) → ((k : ℕ) × (k < length c) × OfElem n c k a) ↔ Eligible n (Plain a) c
-elem_eligible n c a = (
-  λ q. q.2.1,
-  λ e. (let w = member_at (Plain a) c e.isin in (w.0, w.1, (w.2 (Plain 0), e))),
+-- the eligible atom of the clause was pushed
+pub pushed_atom : (n : Normal) (c : List Elem) (a : ℕ) (old new : List ℕ) → Eligible n (Plain a) c → new ≡ old ++ a ∷ [] → (b : ℕ) → OneOf b new ↔ (OneOf b old ⊎ Eligible n (Plain b) c)
+pushed_atom n c a old new el e b = (
+  λ m. elim (member_cases b old (a ∷ []) (subst (OneOf b) e m)) [
+    | inl k ↦ inl k
+    | inr k ↦ elim k [ inl q ↦ inr (subst (λ w. Eligible n (Plain w) c) (sym q) el) | inr z ↦ absurd z ]
+  ],
+  λ q. subst (OneOf b) (sym e) (elim q [
+    | inl k ↦ member_left b old (a ∷ []) k
+    | inr f ↦ (let s : b ≡ a = same_atom b a (eligible_one n c (Plain b) (Plain a) f el) in member_right b old (a ∷ []) (inl s))
+  ]),
 )
-
-pub same_atom : (a b : ℕ) → Plain a ≡ Plain b → a ≡ b
-same_atom a b e = cc
+  where
+    same_atom : (a b : ℕ) → Plain a ≡ Plain b → a ≡ b
+    same_atom a b e = cc

@@ -1,5 +1,5 @@
--- What the rules Back, Sure, Dead and All conclude by one axiom or fact, or with one element or clause: the steps of their walks.
-use Rattle.std.specs.Prelude.{◌≡◌, ℕ, ◌<◌, List, ◌∷◌, ◌++◌, length, remove, slice_index_or}
+-- What the rules Back, Sure, Dead and All conclude by one axiom or fact, or with one clause: the steps of their walks.
+use Rattle.std.specs.Prelude.{◌≡◌, ℕ, List, ◌∷◌, ◌++◌}
 use Rattle.cd_base.specs.Lists.{OneOf, SameSet}
 use Rattle.cd_base.specs.Keys.{plain, negated, key_with}
 use Rattle.cd_base.specs.Normal.{Under}
@@ -16,12 +16,6 @@ use Rattle.cd_rules.specs.Steps.{IsBackOf, IsSureOf}
 -- d is a conclusion by one of these
 abbrev pub ByOne : {X : Type 0} → (X → List Elem → Type 0) → List X → List Elem → Type 0
 ByOne {X} Q items d = (x : X) × OneOf x items × Q x d
-
--- the element stands at this place of the clause, and what is left without that place is the rest beside the element
-pub record IsPlaceOf (e : Elem) (c : List Elem) (i : ℕ) : Type 0 where
-  pub within : i < length c
-  pub at : slice_index_or c i (Plain 0) ≡ e
-  pub alone : remove c i ≡ rest e c
 
 -- Back, by one axiom
 abbrev pub IsBackBy : Normal → ℕ → List ℕ → ℕ → List Elem → Triple → List Elem → Type 0
@@ -59,23 +53,14 @@ abbrev pub IsAllBy : Normal → ℕ → List ℕ → List Elem → List Elem →
 IsAllBy n r k left right t d =
     Under n.n5 r t.role × SameSet d (Exist r (key_with (plain t.other) k) ∷ (left ++ right))
 
--- All, by these axioms with one element of a clause, if that is an eligible existential
-abbrev pub IsAllAtExist : Normal → List Triple → List Elem → List Elem → Elem → List Elem → Type 0
-IsAllAtExist n triples others c (Plain a) d = ⊥
-IsAllAtExist n triples others c (Exist r k) d =
-    Eligible n (Exist r k) c × ByOne (IsAllBy n r k (rest (Exist r k) c) others) triples d
+-- All, by these axioms with a clause whose eligible element is an existential
+abbrev pub IsAllWithExist : Normal → List Triple → List Elem → List Elem → List Elem → Type 0
+IsAllWithExist n triples others c d =
+    (r : ℕ) × (k : List ℕ) × Eligible n (Exist r k) c
+    × ByOne (IsAllBy n r k (rest (Exist r k) c) others) triples d
 
--- All, by these axioms with the elements of a clause
-abbrev pub IsAllWithExists : Normal → List Triple → List Elem → List Elem → List Elem → Type 0
-IsAllWithExists n triples others c d = ByOne (IsAllAtExist n triples others c) c d
-
--- All, for an existential with one element of a clause, if that is an eligible atom
-abbrev pub IsAllAtAtom : Normal → ℕ → List ℕ → List Elem → List Elem → Elem → List Elem → Type 0
-IsAllAtAtom n r k others c (Plain a) d =
-    Eligible n (Plain a) c × ((t : Triple) × OneOf t n.n4 × (t.atom ≡ a)
-    × IsAllBy n r k others (rest (Plain a) c) t d)
-IsAllAtAtom n r k others c (Exist s l) d = ⊥
-
--- All, for an existential with the elements of a clause
-abbrev pub IsAllWithAtoms : Normal → ℕ → List ℕ → List Elem → List Elem → List Elem → Type 0
-IsAllWithAtoms n r k others c d = ByOne (IsAllAtAtom n r k others c) c d
+-- All, for an existential with a clause whose eligible element is an atom
+abbrev pub IsAllWithAtom : Normal → ℕ → List ℕ → List Elem → List Elem → List Elem → Type 0
+IsAllWithAtom n r k others c d =
+    (t : Triple) × OneOf t n.n4 × Eligible n (Plain t.atom) c
+    × IsAllBy n r k others (rest (Plain t.atom) c) t d

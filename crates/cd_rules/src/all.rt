@@ -1,17 +1,17 @@
 //! The rule All.
-ghost use Rattle.std.specs.Prelude.{◌<◌, ◌∷◌, ◌++◌, ℕ, length, slice_index_or, IfOk, IsOk};
+ghost use Rattle.std.specs.Prelude.{◌<◌, ◌∷◌, ◌++◌, ℕ, length, IfOk, IsOk};
 ghost use Rattle.cd_base.specs.Keys.{key_with, plain};
 ghost use Rattle.cd_base.specs.Lists.{OneOf, SameSet};
-ghost use Rattle.cd_clause.specs.declared.elem.Elem.TheVariants.{Plain, Exist};
+ghost use Rattle.cd_clause.specs.declared.elem.Elem.TheVariants.{Exist};
 ghost use Rattle.cd_base.specs.Appends.{Appends};
 ghost use Rattle.cd_rules.specs.Among.{Among};
 ghost use Rattle.cd_rules.specs.Facts.{IsPicked};
 ghost use Rattle.cd_rules.specs.Steps.{IsAllOfAtom, IsAllOfExist};
-ghost use Rattle.cd_rules.specs.Walks.{ByOne, IsAllAtAtom, IsAllAtExist, IsAllBy, IsAllWithAtoms, IsAllWithExists};
+ghost use Rattle.cd_rules.specs.Walks.{ByOne, IsAllBy, IsAllWithAtom, IsAllWithExist};
 
 use crate::look_ups::{alls, is_under};
 use cd_base::{Atom, Key, Lit, Memory, Role, Triple};
-use cd_clause::{Clause, Elem, eligible};
+use cd_clause::{Clause, Elem, greatest};
 use cd_index::Index;
 
 /// ```text
@@ -40,49 +40,29 @@ pub(crate) fn all_of_atom(
         return Ok(());
     }
     for number in choices {
-        all_with_exists(index, triples, &clauses[*number], others, out)?;
+        all_with_exist(index, triples, &clauses[*number], others, out)?;
     }
     Ok(())
 }
 
-/// The rule by these axioms for A, with each eligible existential of a clause. `others` is N. The cost is that of `all_at_exist` for each
-/// element.
-fn all_with_exists(
+/// The rule by these axioms for A, with a clause whose greatest element is an existential. `others` is N. One walk over the clause, and for
+/// an existential then as `all_by`.
+fn all_with_exist(
     index: &Index,
     triples: &[Triple],
     clause: &Clause,
     others: &Clause,
     out: &mut Vec<Clause>,
 ) -> Result<(), Memory>
-    ensures { Appends Among (IsAllWithExists index.now.normal triples.now others.now clause.now)
+    ensures { Appends Among (IsAllWithExist index.now.normal triples.now others.now clause.now)
         (IsOk result) out.old.items out.new.items }
 {
-    for i in 0..clause.elems().len() {
-        all_at_exist(index, triples, clause, i, others, out)?;
-    }
-    Ok(())
-}
-
-/// The rule by these axioms for A, with the element at a place of a clause, if that is an eligible existential. `others` is N. Linear in
-/// the clause for an existential, and then as `all_by`.
-fn all_at_exist(
-    index: &Index,
-    triples: &[Triple],
-    clause: &Clause,
-    i: usize,
-    others: &Clause,
-    out: &mut Vec<Clause>,
-) -> Result<(), Memory>
-    requires { i < length clause.now }
-    ensures { Appends Among (IsAllAtExist index.now.normal triples.now others.now clause.now
-        (slice_index_or clause.now i (Plain 0))) (IsOk result) out.old.items out.new.items }
-{
+    let Some(i) = greatest(clause, index.normal()) else {
+        return Ok(());
+    };
     match &clause.elems()[i] {
         Elem::Plain(_) => Ok(()),
         Elem::Exist(role, key) => {
-            if !eligible(clause, i, index.normal()) {
-                return Ok(());
-            }
             all_by(index, triples, *role, key, &clause.without(i)?, others, out)
         }
     }
@@ -104,13 +84,14 @@ pub(crate) fn all_of_exist(
         (IsOk result) out.old.items out.new.items }
 {
     for number in choices {
-        all_with_atoms(index, &clauses[*number], role, key, others, out)?;
+        all_with_atom(index, &clauses[*number], role, key, others, out)?;
     }
     Ok(())
 }
 
-/// The rule for an existential, with each eligible atom of a clause. `others` is M. The cost is that of `all_at_atom` for each element.
-fn all_with_atoms(
+/// The rule for an existential, with a clause whose greatest element is an atom. `others` is M. One walk over the clause, and for an atom
+/// with axioms then as `all_by`.
+fn all_with_atom(
     index: &Index,
     clause: &Clause,
     role: Role,
@@ -118,38 +99,17 @@ fn all_with_atoms(
     others: &Clause,
     out: &mut Vec<Clause>,
 ) -> Result<(), Memory>
-    ensures { Appends Among (IsAllWithAtoms index.now.normal role key.now others.now clause.now)
+    ensures { Appends Among (IsAllWithAtom index.now.normal role key.now others.now clause.now)
         (IsOk result) out.old.items out.new.items }
 {
-    for i in 0..clause.elems().len() {
-        all_at_atom(index, clause, i, role, key, others, out)?;
-    }
-    Ok(())
-}
-
-/// The rule for an existential, with the element at a place of a clause, if that is an eligible atom. `others` is M. Linear in the clause
-/// for an atom with axioms, and then as `all_by`.
-fn all_at_atom(
-    index: &Index,
-    clause: &Clause,
-    i: usize,
-    role: Role,
-    key: &Key,
-    others: &Clause,
-    out: &mut Vec<Clause>,
-) -> Result<(), Memory>
-    requires { i < length clause.now }
-    ensures { Appends Among (IsAllAtAtom index.now.normal role key.now others.now clause.now
-        (slice_index_or clause.now i (Plain 0))) (IsOk result) out.old.items out.new.items }
-{
+    let Some(i) = greatest(clause, index.normal()) else {
+        return Ok(());
+    };
     match &clause.elems()[i] {
         Elem::Exist(_, _) => Ok(()),
         Elem::Plain(atom) => {
             let triples = alls(index, *atom);
             if triples.is_empty() {
-                return Ok(());
-            }
-            if !eligible(clause, i, index.normal()) {
                 return Ok(());
             }
             all_by(index, triples, role, key, others, &clause.without(i)?, out)

@@ -1,11 +1,11 @@
-//! Clauses by number, and atoms that are eligible in them.
+//! Clauses by number, and atoms that are the greatest elements of clauses.
 ghost use Rattle.std.specs.Prelude.{◌≡◌, ◌<◌, ◌⊎◌, ◌↔◌, ◌++◌, ℕ, List, [], length, slice_index_or, true, IfOk, OnOk, MatchOption};
 ghost use Rattle.cd_base.specs.Lists.{OneOf, SameSet};
 ghost use Rattle.cd_clause.specs.Elements.{Eligible, rest};
 ghost use Rattle.cd_clause.specs.declared.elem.Elem.TheVariants.{Plain, Exist};
 
 use cd_base::{Atom, Memory, Normal};
-use cd_clause::{Clause, Elem, eligible};
+use cd_clause::{Clause, Elem, greatest};
 
 /// The clause whose number is the choice at place `i`. Constant time.
 pub(crate) fn clause_at<'a>(clauses: &'a [Clause], choices: &[usize], i: usize) -> &'a Clause
@@ -16,9 +16,7 @@ pub(crate) fn clause_at<'a>(clauses: &'a [Clause], choices: &[usize], i: usize) 
     &clauses[choices[i]]
 }
 
-/// The clause without the atom where that is eligible in it, and else nothing.
-///
-/// Linear in the clause. Constant time where the clause has an existential, since no atom is eligible beside one.
+/// The clause without the atom where that is its greatest element, and else nothing. Linear in the clause.
 pub(crate) fn rest_without_atom(
     clause: &Clause,
     atom: Atom,
@@ -29,62 +27,44 @@ pub(crate) fn rest_without_atom(
         (λ others. Eligible normal.now (Plain atom) clause.now
         × SameSet others (rest (Plain atom) clause.now))) }
 {
-    if has_existential(clause) {
+    let Some(i) = greatest(clause, normal) else {
+        return Ok(None);
+    };
+    if !is_atom(&clause.elems()[i], atom) {
         return Ok(None);
     }
-    let elems = clause.elems();
-    match place_of(elems, atom) {
-        None => Ok(None),
-        Some(i) => {
-            if eligible(clause, i, normal) {
-                let others = clause.without(i)?;
-                Ok(Some(others))
-            } else {
-                Ok(None)
-            }
-        }
-    }
+    Ok(Some(clause.without(i)?))
 }
 
-/// Appends the atoms that are eligible in the clause.
-///
-/// Compares each of its elements with the others. Constant time where the clause has an existential.
+/// Appends the atom that is the greatest element of the clause, where that is an atom. As `greatest_atom`.
 pub fn push_eligible(clause: &Clause, normal: &Normal, atoms: &mut Vec<u32>) -> Result<(), Memory>
     ensures { OnOk result ((b : ℕ) → OneOf b atoms.new.items
         ↔ (OneOf b atoms.old.items ⊎ Eligible normal.now (Plain b) clause.now)) }
 {
-    if has_existential(clause) {
-        return Ok(());
-    }
-    let elems = clause.elems();
-    'places: for i in 0..elems.len() {
-        match eligible_at(clause, i, normal) {
-            Some(atom) => {
-                atoms.push(atom.number())?;
-            }
-            None => {}
+    match greatest_atom(clause, normal) {
+        None => Ok(()),
+        Some(atom) => {
+            atoms.push(atom.number())?;
+            Ok(())
         }
     }
-    Ok(())
 }
 
-/// The atom at place `i` where it is eligible. Linear in the clause.
-fn eligible_at(clause: &Clause, i: usize, normal: &Normal) -> Option<Atom>
-    requires { i < length clause.now }
-    ensures { MatchOption result ((a : ℕ) → slice_index_or clause.now i (Plain 0) ≡ Plain a
-        → Eligible normal.now (Plain a) clause.now → ⊥)
-        (λ a. (slice_index_or clause.now i (Plain 0) ≡ Plain a)
-        × Eligible normal.now (Plain a) clause.now) }
+/// The atom that is the greatest element of the clause, where that is an atom.
+///
+/// One walk over the clause. Constant time where the clause has an existential, since each is above the atoms.
+pub(crate) fn greatest_atom(clause: &Clause, normal: &Normal) -> Option<Atom>
+    ensures { MatchOption result ((a : ℕ) → Eligible normal.now (Plain a) clause.now → ⊥)
+        (λ a. Eligible normal.now (Plain a) clause.now) }
 {
-    let elems = clause.elems();
-    match &elems[i] {
-        Elem::Plain(atom) => {
-            if eligible(clause, i, normal) {
-                Some(*atom)
-            } else {
-                None
-            }
-        }
+    if has_existential(clause) {
+        return None;
+    }
+    let Some(i) = greatest(clause, normal) else {
+        return None;
+    };
+    match &clause.elems()[i] {
+        Elem::Plain(atom) => Some(*atom),
         Elem::Exist(_, _) => None,
     }
 }
@@ -105,19 +85,6 @@ fn is_existential(elem: &Elem) -> bool
         Elem::Plain(_) => false,
         Elem::Exist(_, _) => true,
     }
-}
-
-/// The place at which the atom stands. Linear in the elements.
-fn place_of(elems: &[Elem], atom: Atom) -> Option<usize>
-    ensures { MatchOption result (OneOf (Plain atom) elems.now → ⊥)
-        (λ i. (i < length elems.now) × (slice_index_or elems.now i (Plain 0) ≡ Plain atom)) }
-{
-    'places: for i in 0..elems.len() {
-        if is_atom(&elems[i], atom) {
-            return Some(i);
-        }
-    }
-    None
 }
 
 /// Whether the element is this atom. Constant time.

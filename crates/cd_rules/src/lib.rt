@@ -1,9 +1,8 @@
 //! The rules of the calculus, in code: each call appends exactly the conclusions that use what it is given.
 //!
 //! A context calls `on_key` once, `on_clause` for each clause that it takes up, and `on_back`, `on_sure` and `on_dead` for each fact that
-//! comes.
-//! One module has one rule and is named as the rule, with its picture over it. Each goes from one eligible element of the premise, whose
-//! rest is made once, to what the index lists for that element (`premise`). `look_ups` asks the index for any atom or role.
+//! comes. One module has one rule and is named as the rule, with its picture over it. Each goes from the greatest element of the premise,
+//! whose rest is made once, to what the index lists for that element (`premise`). `look_ups` asks the index for any atom or role.
 #![tactic(auto)]
 
 mod all;

@@ -17,14 +17,14 @@ use crate::facts::{BackFact, DeadFact, SureFact};
 use crate::neg::neg;
 use crate::sure::sure_from;
 use cd_base::{Atom, Key, Memory, Role};
-use cd_clause::{Clause, Elem, eligible};
+use cd_clause::{Clause, Elem, greatest};
 use cd_index::Index;
 use std::alloc::Global;
 
-/// Appends every conclusion of the context of `key` that uses the clause numbered `premise` on an eligible element, with other premises
-/// that are that clause or live, eligible too, or among the facts; and no other.
+/// Appends every conclusion of the context of `key` that uses the clause numbered `premise` on its greatest element, with other premises
+/// that are that clause or live, on their greatest elements too, or among the facts; and no other.
 ///
-/// `live` need have only such numbers as can be of use. The cost is that of the rules for each eligible element of the clause.
+/// `live` need have only such numbers as can be of use. The cost is that of the rules for the greatest element of the clause.
 /// `Memory` leaves such conclusions alone behind.
 pub fn on_clause(
     alloc: Global,
@@ -44,18 +44,18 @@ pub fn on_clause(
         (record { backs = backs.now; sures = sures.now; deads = deads.now }))
         (IsOk result) out.old.items out.new.items }
 {
-    let choices = choices_of(alloc, premise, live)?;
     let clause = &clauses[premise];
-    let elems = clause.elems();
-    'places: for i in 0..elems.len() {
-        if eligible(clause, i, index.normal()) {
+    match greatest(clause, index.normal()) {
+        None => Ok(()),
+        Some(i) => {
+            let choices = choices_of(alloc, premise, live)?;
             let others = clause.without(i)?;
+            let elems = clause.elems();
             on_elem(
                 alloc, index, key, clauses, &choices, backs, sures, deads, &elems[i], &others, out,
-            )?;
+            )
         }
     }
-    Ok(())
 }
 
 /// The numbers of the clauses that may stand beside the premise: its own, and the live ones. Linear in these.

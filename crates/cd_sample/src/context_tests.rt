@@ -5,7 +5,7 @@ ghost use Rattle.cd_base.specs.Keys.{is_named, plain, negated};
 ghost use Rattle.cd_base.specs.Lists.{OneOf};
 ghost use Rattle.cd_context.specs.Justified.{IsContext, ClosedLocally};
 
-use crate::sample::{choice_index, hand_made, universal_index};
+use crate::sample::{choice_index, hand_made, idle_index, universal_index};
 use cd_base::{Atom, Key, Lit, Role};
 use cd_context::{Context, Fact, Note};
 use cd_index::Index;
@@ -168,7 +168,7 @@ fn the_existential_that_pairs_give_is_told_and_what_it_covers_is_not(rt: HostRun
     drop(index);
 }
 
-/// Tells the context of 2 that the context of 4 has the class 4.
+/// Tells the context of 2 that the context of 4 has the class 4 in some case.
 fn tell_back(
     rt: &impl Abort,
     alloc: Global,
@@ -176,6 +176,8 @@ fn tell_back(
     context: &mut Context,
     out: &mut Vec<Note>,
 )
+    requires ranks { index.now.normal.ranks ≡ [] }
+    requires idle { OneOf (record { left = 4 ∷ []; right = 3 ∷ 4 ∷ [] }) index.now.normal.n1 }
     requires edge { OneOf (record { atom = 2; role = 0; other = 4 }) index.now.normal.n2 }
     requires key { context.old.key ≡ plain 2 ∷ [] }
     requires context { IsContext index.now.normal context.old }
@@ -244,6 +246,8 @@ fn tell_dead(
     context: &mut Context,
     out: &mut Vec<Note>,
 )
+    requires ranks { index.now.normal.ranks ≡ [] }
+    requires idle { OneOf (record { left = 4 ∷ []; right = 3 ∷ 4 ∷ [] }) index.now.normal.n1 }
     requires edge { OneOf (record { atom = 2; role = 0; other = 4 }) index.now.normal.n2 }
     requires back { OneOf (record { atom = 4; role = 0; other = 5 }) index.now.normal.n3 }
     requires key { context.old.key ≡ plain 2 ∷ [] }
@@ -258,6 +262,8 @@ fn tell_dead(
 
 /// Whether the back gives a clause, and the link to its existential alone.
 fn tells_of_the_back(rt: &impl Abort, alloc: Global, index: &Index, context: &mut Context) -> bool
+    requires ranks { index.now.normal.ranks ≡ [] }
+    requires idle { OneOf (record { left = 4 ∷ []; right = 3 ∷ 4 ∷ [] }) index.now.normal.n1 }
     requires edge { OneOf (record { atom = 2; role = 0; other = 4 }) index.now.normal.n2 }
     requires key { context.old.key ≡ plain 2 ∷ [] }
     requires context { IsContext index.now.normal context.old }
@@ -281,6 +287,8 @@ fn is_silent_at_the_dead(
     index: &Index,
     context: &mut Context,
 ) -> bool
+    requires ranks { index.now.normal.ranks ≡ [] }
+    requires idle { OneOf (record { left = 4 ∷ []; right = 3 ∷ 4 ∷ [] }) index.now.normal.n1 }
     requires edge { OneOf (record { atom = 2; role = 0; other = 4 }) index.now.normal.n2 }
     requires back { OneOf (record { atom = 4; role = 0; other = 5 }) index.now.normal.n3 }
     requires key { context.old.key ≡ plain 2 ∷ [] }
@@ -313,7 +321,7 @@ fn owes_the_first_link_alone(
 
 #[test]
 fn a_clause_whose_existential_is_impossible_gives_way_to_its_rest(rt: HostRuntime) {
-    let index = hand_made(&rt, rt.alloc());
+    let index = idle_index(&rt, rt.alloc());
     let mut context = begun(&rt, rt.alloc(), &index, 2);
     assert!(rt; owes_the_first_link_alone(&rt, rt.alloc(), &index, &context));
     assert!(rt; tells_of_the_back(&rt, rt.alloc(), &index, &mut context));

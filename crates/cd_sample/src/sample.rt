@@ -1,4 +1,4 @@
-//! The hand-made normal axioms and their indexes.
+//! The hand-made normal axioms and their indexes. They tell no ranks, so that atoms are in the order of their numbers.
 ghost use Rattle.std.specs.Prelude.{◌≡◌, ◌∷◌, [], true, IsTrue};
 ghost use Rattle.std.specs.List.{list_all};
 ghost use Rattle.cd_base.specs.Keys.{is_named};
@@ -71,6 +71,7 @@ fn six_atoms(rt: &impl Abort, alloc: Global) -> Normal
     Normal {
         atoms: 6,
         named: Seq::of(named),
+        ranks: Seq::of(Vec::new(alloc)),
         roles: 1,
         n1,
         n2: Seq::of(n2),
@@ -90,6 +91,73 @@ pub fn hand_made(rt: &impl Abort, alloc: Global) -> Index
     ensures back { OneOf (record { atom = 4; role = 0; other = 5 }) result.normal.n3 }
 {
     let normal = six_atoms(rt, alloc);
+    let closure = Closure::of(alloc, normal.roles, normal.n5.items()).expect(rt, "memory");
+    Index::of(alloc, normal, closure).expect(rt, "memory")
+}
+
+fn three_and_four(rt: &impl Abort, alloc: Global) -> Seq<Atom>
+    ensures { result ≡ 3 ∷ 4 ∷ [] }
+{
+    Seq::of(vec![in alloc; Atom(3), Atom(4)].expect(rt, "memory"))
+}
+
+/// `-> 0`, `2 -> 3`, and `4 -> 3 4`, which says nothing, and by which 4 is the greatest of a clause with others in its own context.
+fn idle_axioms(rt: &impl Abort, alloc: Global) -> Seq<Conj>
+    ensures within { IsTrue (list_all (has_atoms_below 6) result) }
+    ensures idle { OneOf (record { left = 4 ∷ []; right = 3 ∷ 4 ∷ [] }) result }
+{
+    let always = Conj {
+        left: no_atoms(alloc),
+        right: one_atom(rt, alloc, 0),
+    };
+    let below = Conj {
+        left: one_atom(rt, alloc, 2),
+        right: one_atom(rt, alloc, 3),
+    };
+    let idle = Conj {
+        left: one_atom(rt, alloc, 4),
+        right: three_and_four(rt, alloc),
+    };
+    Seq::of(vec![in alloc; always, below, idle].expect(rt, "memory"))
+}
+
+/// As `six_atoms`, with an axiom that says nothing.
+fn with_an_idle_axiom(rt: &impl Abort, alloc: Global) -> Normal
+    ensures atoms { result.atoms ≡ 6 }
+    ensures ranks { result.ranks ≡ [] }
+    ensures roles { result.roles ≡ 1 }
+    ensures chains { result.n5 ≡ [] }
+    ensures two { is_named result 2 ≡ true }
+    ensures idle { OneOf (record { left = 4 ∷ []; right = 3 ∷ 4 ∷ [] }) result.n1 }
+    ensures edge { OneOf (record { atom = 2; role = 0; other = 4 }) result.n2 }
+    ensures back { OneOf (record { atom = 4; role = 0; other = 5 }) result.n3 }
+{
+    let n1 = idle_axioms(rt, alloc);
+    let named = vec![in alloc; true, true, true, true, true, true].expect(rt, "memory");
+    let n2 = vec![in alloc; triple(2, 4)].expect(rt, "memory");
+    let n3 = vec![in alloc; triple(4, 5)].expect(rt, "memory");
+    Normal {
+        atoms: 6,
+        named: Seq::of(named),
+        ranks: Seq::of(Vec::new(alloc)),
+        roles: 1,
+        n1,
+        n2: Seq::of(n2),
+        n3: Seq::of(n3),
+        n4: Seq::of(Vec::new(alloc)),
+        n5: Seq::of(Vec::new(alloc)),
+    }
+}
+
+/// The index of `with_an_idle_axiom`.
+pub fn idle_index(rt: &impl Abort, alloc: Global) -> Index
+    ensures ranks { result.normal.ranks ≡ [] }
+    ensures two { is_named result.normal 2 ≡ true }
+    ensures idle { OneOf (record { left = 4 ∷ []; right = 3 ∷ 4 ∷ [] }) result.normal.n1 }
+    ensures edge { OneOf (record { atom = 2; role = 0; other = 4 }) result.normal.n2 }
+    ensures back { OneOf (record { atom = 4; role = 0; other = 5 }) result.normal.n3 }
+{
+    let normal = with_an_idle_axiom(rt, alloc);
     let closure = Closure::of(alloc, normal.roles, normal.n5.items()).expect(rt, "memory");
     Index::of(alloc, normal, closure).expect(rt, "memory")
 }
@@ -129,6 +197,7 @@ fn with_a_universal(rt: &impl Abort, alloc: Global) -> Normal
     Normal {
         atoms: 6,
         named: Seq::of(named),
+        ranks: Seq::of(Vec::new(alloc)),
         roles: 1,
         n1,
         n2: Seq::of(n2),
@@ -175,6 +244,7 @@ fn with_a_choice(rt: &impl Abort, alloc: Global) -> Normal
     Normal {
         atoms: 6,
         named: Seq::of(named),
+        ranks: Seq::of(Vec::new(alloc)),
         roles: 1,
         n1,
         n2: Seq::of(n2),

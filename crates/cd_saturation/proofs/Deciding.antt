@@ -7,6 +7,7 @@ use Rattle.cd_base.specs.declared.answer.Answer.{Answer}
 use Rattle.cd_base.specs.declared.answer.Answer.TheVariants.{Unsatisfiable, Of}
 use Rattle.cd_base.specs.declared.normal.Normal.{Normal}
 use Rattle.cd_base.proofs.Members.{member_left, member_right, member_cases}
+use Rattle.cd_clause.specs.Derivations.{MayBeAsked}
 use Rattle.cd_actor.specs.Cells.{At}
 use Rattle.cd_actor.proofs.At.{at_of_set, at_one, at_same}
 use Rattle.cd_model.specs.Exactness.{NoneIn, AllIn}
@@ -75,7 +76,7 @@ module _ (n : Normal) (classes : ℕ) (above : List Answer) (groups : List Group
     only = λ a cs b at k. (let w = m.answers a (Of cs) at in only_at a w.0 cs b w.1 w.2 k);
     every = λ a cs b at named all. (let w = m.answers a (Of cs) at in every_at a w.0 cs b at w.1 w.2 named all);
     classes_below = λ h k. (let w = m.from h k in subst (λ z. z < classes) (sym w.2) (d.classes_below w.0 w.1));
-    names_named = λ h k b j. (let w = m.from h k in d.names_named w.0 w.1 b (w.3 b j));
+    asked = λ h k b j. (let w = m.from h k in subst (λ (z : ℕ). MayBeAsked n z b) (sym w.2) (d.asked w.0 w.1 b (w.3 b j)));
   }
 
 -- what stands in the place of a group
@@ -178,7 +179,7 @@ taken n g b above above_new groups one all more classes rest d =
     record { from = λ h m. absurd m; to = to } classes groups (sym (append-nil groups)) d
   where
     named : is_named n b ≡ true
-    named = d.names_named g (member_right g groups (g ∷ rest) (inl refl)) b (subst (λ (z : List ℕ). OneOf b z) (sym one) (inl refl))
+    named = (d.asked g (member_right g groups (g ∷ rest) (inl refl)) b (subst (λ (z : List ℕ). OneOf b z) (sym one) (inl refl))).0
 
     answers : (a : ℕ) (y : Answer) → At above_new a y → (x : Answer) × At above a x × Extends n a x y
     answers a y at = elim (at_of_set above g.class a (with_name b more.0) y (subst (λ (z : List Answer). At z a y) more.2 at)) [

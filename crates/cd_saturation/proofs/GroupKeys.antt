@@ -3,7 +3,7 @@ use Rattle.std.proofs.Common.{◌≡◌, ◌⊎◌, ℕ, Bool, true, List, [], �
 use Rattle.cd_base.specs.Keys.{plain, is_named}
 use Rattle.cd_base.specs.Lists.{OneOf}
 use Rattle.cd_base.specs.declared.normal.Normal.{Normal}
-use Rattle.cd_clause.specs.Derivations.{IsStart, start_key}
+use Rattle.cd_clause.specs.Derivations.{IsStart, MayBeAsked, start_key}
 use Rattle.cd_cell.specs.TrueAnswers.{IsTrueTest}
 use Rattle.cd_saturation.specs.Decided.{IsTrueTestOf}
 use Rattle.cd_saturation.specs.Groups.{key_of, with_negated}
@@ -39,15 +39,15 @@ one_of b names m = elim (onto_member b names [] m) [ inl k ↦ k | inr z ↦ abs
 
 -- the key of a named class
 pub class_start : (n : Normal) (a : ℕ) → is_named n a ≡ true → IsStart n (plain a ∷ [])
-class_start n a named = record { atom = a; others = []; named = named; named_others = λ b m. absurd m; is = refl }
+class_start n a named = record { atom = a; others = []; named = named; asked = λ b m. absurd m; is = refl }
 
 -- the key of a group of a named class and names
-pub group_start : (n : Normal) (a : ℕ) (names : List ℕ) → is_named n a ≡ true → ((b : ℕ) → OneOf b names → is_named n b ≡ true) → IsStart n (key_of a names)
+pub group_start : (n : Normal) (a : ℕ) (names : List ℕ) → is_named n a ≡ true → ((b : ℕ) → OneOf b names → MayBeAsked n a b) → IsStart n (key_of a names)
 group_start n a names named each = record {
   atom = a;
   others = onto names [];
   named = named;
-  named_others = λ b m. each b (one_of b names m);
+  asked = λ b m. each b (one_of b names m);
   is = key_is_start a names;
 }
 

@@ -2,8 +2,12 @@ pub mod Answered
 pub mod Closures
 pub mod Deciding
 pub mod Documents
+pub mod FewStored
 pub mod GroupKeys
+pub mod NamesAlone
+pub mod NoChoice
 pub mod Reading
 pub mod Runs
+pub mod UnitClauses
 pub mod Walks
 pub mod Weights

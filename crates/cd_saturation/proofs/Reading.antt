@@ -6,6 +6,7 @@ use Rattle.cd_base.specs.declared.answer.Answer.{Answer}
 use Rattle.cd_base.specs.declared.answer.Answer.TheVariants.{Unsatisfiable, Of}
 use Rattle.cd_base.specs.declared.normal.Normal.{Normal}
 use Rattle.cd_base.proofs.Members.{member_left, member_right, member_cases}
+use Rattle.cd_clause.specs.Derivations.{MayBeAsked}
 use Rattle.cd_actor.specs.Cells.{At}
 use Rattle.cd_actor.proofs.At.{at_one}
 use Rattle.cd_context.specs.declared.facts.Fact.TheVariants.{Start}
@@ -55,7 +56,7 @@ none_read n = record {
   only = λ a bs b at. absurd at;
   every = λ a bs b at. absurd at;
   classes_below = λ g m. absurd m;
-  names_named = λ g m. absurd m;
+  asked = λ g m. absurd m;
 }
 
 abbrev IsNoList : Answer → Type 0
@@ -100,9 +101,11 @@ module _ (n : Normal) (k : ℕ) where
   new_class Reading.Unsatisfiable g m = absurd m
   new_class (Reading.Of names left_open) g m = ap (λ (z : Group). z.class) (member_open k left_open g m)
 
-  new_named : (r : Reading) → IsTrueReading n k r → (g : Group) → OneOf g (group_of k r) → (b : ℕ) → OneOf b g.names → is_named n b ≡ true
-  new_named Reading.Unsatisfiable t g m b j = absurd m
-  new_named (Reading.Of names left_open) t g m b j = t.open_named b (subst (λ (z : List ℕ). OneOf b z) (ap (λ (z : Group). z.names) (member_open k left_open g m)) j)
+  new_asked : (r : Reading) → IsTrueReading n k r → (g : Group) → OneOf g (group_of k r) → (b : ℕ) → OneOf b g.names → MayBeAsked n g.class b
+  new_asked Reading.Unsatisfiable t g m b j = absurd m
+  new_asked (Reading.Of names left_open) t g m b j =
+      let is = member_open k left_open g m in
+      subst (λ (z : ℕ). MayBeAsked n z b) (sym (ap (λ (z : Group). z.class) is)) (t.asked b (subst (λ (z : List ℕ). OneOf b z) (ap (λ (z : Group). z.names) is) j))
 
   module _ (above : List Answer) (groups : List Group) (r : Reading) (d : IsDecided n k above groups) (t : IsTrueReading n k r) where
     abbrev more_above : List Answer
@@ -153,10 +156,10 @@ module _ (n : Normal) (k : ℕ) where
       | inr h ↦ (let l = new_class r g h in omega arith)
     ]
 
-    names_named : (g : Group) → OneOf g more_groups → (b : ℕ) → OneOf b g.names → is_named n b ≡ true
-    names_named g m b j = elim (member_cases g groups (group_of k r) m) [
-      | inl h ↦ d.names_named g h b j
-      | inr h ↦ new_named r t g h b j
+    asked : (g : Group) → OneOf g more_groups → (b : ℕ) → OneOf b g.names → MayBeAsked n g.class b
+    asked g m b j = elim (member_cases g groups (group_of k r) m) [
+      | inl h ↦ d.asked g h b j
+      | inr h ↦ new_asked r t g h b j
     ]
 
     pub one_more : IsDecided n (k + 1) more_above more_groups
@@ -167,7 +170,7 @@ module _ (n : Normal) (k : ℕ) where
       only = only;
       every = every;
       classes_below = classes_below;
-      names_named = names_named;
+      asked = asked;
     }
 
 pub read_more : (n : Normal) (k : ℕ) (above above_new : List Answer) (groups groups_new : List Group) (r : Reading) → IsDecided n k above groups → IsTrueReading n k r

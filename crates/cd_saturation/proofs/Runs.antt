@@ -9,7 +9,7 @@ use Rattle.cd_base.proofs.Members.{member_left, member_right, member_cases, memb
 use Rattle.std.proofs.lemmas.Bool.{cases_lt}
 use Rattle.cd_actor.proofs.At.{at_below}
 use Rattle.cd_context.specs.declared.facts.Fact.TheVariants.{Start}
-use Rattle.cd_clause.specs.Derivations.{IsStart, from_start}
+use Rattle.cd_clause.specs.Derivations.{IsStart, MayBeAsked, from_start}
 use Rattle.cd_context.specs.declared.facts.Note.{Note}
 use Rattle.cd_cell.specs.Cells.{CellState, IsWhole, IsCell, IsLawfulNote, meaning, place_of}
 use Rattle.cd_cell.specs.Counts.{HasContexts, HasFacts}
@@ -82,7 +82,7 @@ module _ (n : Normal) (count : ℕ) (cells : List CellState) (of : AreOf meaning
       let s = starts.only x m in
       subst (λ x. IsLawful meaning cells x) (sym s.2) (start_lawful (plain s.0 ∷ []) (class_start n s.0 (named s.0 s.1)))
 
-  pub groups_lawful : (groups : List Group) → ((g : Group) → OneOf g groups → is_named n g.class ≡ true) → ((g : Group) → OneOf g groups → (b : ℕ) → OneOf b g.names → is_named n b ≡ true)
+  pub groups_lawful : (groups : List Group) → ((g : Group) → OneOf g groups → is_named n g.class ≡ true) → ((g : Group) → OneOf g groups → (b : ℕ) → OneOf b g.names → MayBeAsked n g.class b)
       → AreAllLawful meaning cells (starts_of count groups)
   groups_lawful groups class names x m =
       let r = map_member (λ (g : Group). start_at count (key_of g.class g.names)) x groups m in
@@ -148,7 +148,7 @@ module _ (n : Normal) (count classes : ℕ) (cells : List CellState) (run : AreR
   pub open_lawful : 0 < count → ((a : ℕ) → a < classes → is_named n a ≡ true) → (above : List Answer) (groups : List Group) → IsDecided n classes above groups → AreAllLawful meaning cells (starts_of count groups)
   open_lawful some named above groups d x m =
       let r = map_member (λ (g : Group). start_at count (key_of g.class g.names)) x groups m in
-      groups_lawful n count cells run.family (run_long r.0.class (d.classes_below r.0 r.1)) some groups (λ g k. named g.class (d.classes_below g k)) d.names_named x m
+      groups_lawful n count cells run.family (run_long r.0.class (d.classes_below r.0 r.1)) some groups (λ g k. named g.class (d.classes_below g k)) d.asked x m
 
 -- cells that are run on with the messages of groups have the contexts of these
 pub groups_begun : (count : ℕ) (cells : List CellState) (groups : List Group) (after : List CellState) → IsSettled meaning cells (starts_of count groups) after

@@ -6,7 +6,7 @@ use Rattle.cd_base.specs.declared.answer.Answer.{Answer}
 use Rattle.cd_base.specs.declared.answer.Answer.TheVariants.{Unsatisfiable, Of}
 use Rattle.cd_base.specs.declared.normal.Normal.{Normal}
 use Rattle.cd_actor.specs.Cells.{At}
-use Rattle.cd_clause.specs.Derivations.{start_key}
+use Rattle.cd_clause.specs.Derivations.{MayBeAsked, start_key}
 use Rattle.cd_model.specs.Canonical.{RolesInRange}
 use Rattle.cd_model.specs.Exactness.{NoneIn, AllIn}
 use Rattle.cd_cell.specs.Cells.{CellState}
@@ -36,8 +36,8 @@ pub record IsDecided (n : Normal) (classes : ℕ) (above : List Answer)
       → AllIn n a b
       → OneOf b bs ⊎ ((g : Group) × OneOf g groups × (g.class ≡ a) × OneOf b g.names)
   pub classes_below : (g : Group) → OneOf g groups → g.class < classes
-  pub names_named : (g : Group) → OneOf g groups → (b : ℕ) → OneOf b g.names
-      → is_named n b ≡ true
+  pub asked : (g : Group) → OneOf g groups → (b : ℕ) → OneOf b g.names
+      → MayBeAsked n g.class b
 
 -- what was decided stays decided where the group is replaced, whatever other groups there are
 abbrev pub Replaces : Normal → Group → List Answer → List Group → List Answer → List Group → Type 0

@@ -15,7 +15,8 @@
 //! all models of the normal axioms (`cd_cell`), which are the document's structural normal form (`proofs/Documents.antt`). What is decided
 //! (`specs/Decided.antt`) is said of models alone, so it stays so while the cells are run on. A run has no answers only where memory ran
 //! out or a maximum was reached: then the rules can reach that many contexts from the normal axioms, or that many facts in them
-//! (`specs/Limit.antt`).
+//! (`specs/Limit.antt`). By a document of named classes alone neither is, where the maxima are above its sizes (`specs/Answerable.antt`):
+//! its normal axioms leave no choice and ask for no edge, so that each derived clause is empty or one atom.
 //!
 //! How the cells are worked, by one core on one thread, is known here and nowhere above.
 #![tactic(auto)]
@@ -24,6 +25,7 @@ mod group;
 mod groups;
 mod halt;
 mod indexing;
+mod laws;
 mod readings;
 mod rounds;
 mod saturation;
@@ -31,5 +33,6 @@ mod subsumers;
 
 pub use halt::Halt;
 pub use indexing::index_of;
+pub use laws::names_are_answerable;
 pub use saturation::saturate;
 pub use subsumers::answers;

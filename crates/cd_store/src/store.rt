@@ -113,14 +113,16 @@ impl Store {
         Ok(Added::New(number))
     }
 
-    /// Whether a stored clause, live or dead, has the atom: true wherever one has, and maybe where none has. Two look-ups.
-    pub fn may_have(&self, atom: Atom) -> bool
-        ensures { (n : ℕ) → HasElem self.now.clauses (Plain atom) n → result ≡ true }
+    /// The numbers of the stored clauses, live or dead, that have the atom, lent: each is in one of these two lists, and maybe others. Two
+    /// look-ups.
+    pub fn with_atom(&self, atom: Atom) -> (&[usize], &[usize])
+        ensures { (n : ℕ) → HasElem self.now.clauses (Plain atom) n
+            → OneOf n result.0.now ⊎ OneOf n result.1.now }
     {
-        if !self.filing.ending_in_atom(atom).is_empty() {
-            return true;
-        }
-        !self.filing.going_on_from_atom(atom).is_empty()
+        (
+            self.filing.ending_in_atom(atom),
+            self.filing.going_on_from_atom(atom),
+        )
     }
 
     /// Appends the number of each stored clause, live or dead, that has the atom, and maybe others. Two look-ups, and linear in what is

@@ -3,6 +3,7 @@ pub mod Asked
 pub mod Complete
 pub mod Fronts
 pub mod LeastTrial
+pub mod NamesAlone
 pub mod Promised
 pub mod Renumbering
 pub mod Restated

@@ -1,5 +1,5 @@
 -- No text that is written is empty.
-use Rattle.std.proofs.Common.{◌≡◌, ◌<◌, ℕ, Bool, List, length, sym, subst, arith}
+use Rattle.std.proofs.Common.{◌<◌, ℕ, Bool, List, length, sym, subst, arith}
 use Rattle.cd_meaning.specs.declared.document.Document.{Document}
 use Rattle.cd_meaning.specs.Answer.{IsAnswer}
 use Rattle.cd_meaning.specs.Text.{text}

@@ -7,6 +7,7 @@ use Rattle.cd_meaning.specs.declared.document.Document.{Document}
 use Rattle.cd_meaning.specs.AnyDomain.{Elements, EntailsOver}
 use Rattle.cd_meaning.specs.Answer.{IsAnswer}
 use Rattle.cd_base.specs.declared.limit_kind.LimitKind.{LimitKind}
+use Rattle.cd_saturation.specs.Answerable.{IsOfNamesWithin}
 use Rattle.cd_saturation.specs.Limit.{IsReached}
 use Rattle.cd_top.specs.Restated.{EntailsNamed, Restates}
 
@@ -54,3 +55,8 @@ abbrev pub IsBelowOver : Type 0 → Type 0
 IsBelowOver D = (input text : List ℕ) (document said : Document) → IsAnswered input text → IsRead input document → IsRead text said
     → (a b : ℕ) (i j : List ℕ) → slice_get document.classes a ≡ Some i → slice_get document.classes b ≡ Some j
     → EntailsNamed said i j ↔ (EntailsOver D document.axioms a b × ((n : ℕ) → EntailsOver (Elements n) document.axioms a b))
+
+-- an accepted document of named classes alone, within the sizes that the maxima leave to such documents, is answerable
+abbrev pub NamesAreAnswered : Type 0
+NamesAreAnswered = (input : List ℕ) (document : Document) (most max_contexts max_facts : ℕ) → length input ≤ most → IsRead input document
+    → IsOfNamesWithin document max_contexts max_facts → IsAnswerable input most max_contexts max_facts

@@ -1,5 +1,5 @@
 //! Laws of the definitions, each on the contract of a function that does nothing.
-ghost use Rattle.cd_top.specs.Headline.{HasOneText, IsBelowOver};
+ghost use Rattle.cd_top.specs.Headline.{HasOneText, IsBelowOver, NamesAreAnswered};
 ghost use Rattle.cd_top.specs.Restated.{AnswerIsRestated, SameHaveSameAnswer};
 
 /// The answer to an accepted document is itself an accepted document: it has the same classes, entails the same of any two of them,
@@ -22,4 +22,10 @@ pub fn has_one_text()
 /// the axioms of the input hold: over this domain, finite or not, and over every finite one. Direct Semantics, section 2.5.
 pub fn is_below_in_every_structure<D>()
     ensures { IsBelowOver D }
+{}
+
+/// An accepted document of named classes alone, small beside the maxima, is answerable: so by the clause `classify` of `run` its run is
+/// `Done` where no fault rises, unless memory runs out, and never ends at a maximum.
+pub fn names_are_answered()
+    ensures { NamesAreAnswered }
 {}

@@ -34,6 +34,7 @@ mod stop;
 pub use command::run;
 pub use commands::classify::classify_here;
 pub use laws::{
-    answer_is_restated, has_one_text, is_below_in_every_structure, same_have_same_answer,
+    answer_is_restated, has_one_text, is_below_in_every_structure, names_are_answered,
+    same_have_same_answer,
 };
 pub use status::Status;

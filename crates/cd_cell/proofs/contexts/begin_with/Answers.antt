@@ -6,4 +6,4 @@ returns-clause-ok c =
     let b = c.in_ok-context.ensures in
     let e = c.in_ok-absorb.ensures in
     begins c.args.index.now.normal c.in_ok-context.context c.absorb.new.self c.args.fact c.new-notes.result.items c.begin.new.out.items c.absorb.new.out.items
-    c.new-notes.ensures.items b.context e.context e.closed e.had b.sends e.sends
+    c.new-notes.ensures.items b.context b.closed e.context e.closed e.had b.sends e.sends

@@ -1,4 +1,4 @@
-use Rattle.std.proofs.Common.{◌≡◌, ◌<◌, ℕ, List, [], length, get_or, sym, ap, ◌∙◌, subst, inl, inr}
+use Rattle.std.proofs.Common.{◌≡◌, ◌<◌, ℕ, List, [], length, get_or, refl, sym, ap, ◌∙◌, subst, inl, inr}
 use Rattle.std.proofs.lemmas.Bool.{cases_eq}
 use Rattle.std.proofs.lemmas.List.{get_or_read}
 use Rattle.cd_base.specs.Lists.{OneOf}
@@ -14,7 +14,7 @@ push_beside-requires c = λ e m.
     let read : c.index-clauses-premise.result ≡ get_or c.args.store.now.clauses c.args.premise []
     = get_or_read lent c.args.premise c.index-clauses-premise.result (subst (λ (l : List (List Elem)). c.args.premise < length l) (sym c.clauses.ensures.value) c.requires) c.index-clauses-premise.is []
     ∙ ap (λ (l : List (List Elem)). get_or l c.args.premise []) c.clauses.ensures.value in
-    (c.args.premise, (c.requires, subst (λ (d : List Elem). OneOf e d) read m))
+    (c.args.premise, inl refl, (c.requires, subst (λ (d : List Elem). OneOf e d) read m))
 
 pub returns-clause-live : goal.returns-clause-live
 returns-clause-live c = c.in_ok-others.ensures.live

@@ -1,42 +1,35 @@
-use Rattle.std.proofs.Common.{◌≡◌, ℕ, true, refl, ap, sym, ◌∙◌, subst, arith, length}
+use Rattle.std.proofs.Common.{◌≡◌, ◌<◌, true, sym, ◌∙◌, subst, get_or, length, List}
 use Rattle.std.specs.Result.{IsOk}
-use Rattle.std.proofs.lemmas.List.{nil_from_length}
-use Rattle.cd_base.specs.Appends.{Appends}
-use Rattle.cd_base.specs.Lists.{OneOf}
-use Rattle.cd_base.proofs.Appending.{OfBelow, below_begins, below_goes, below_stops, failed, member_grows}
-use Rattle.cd_context.specs.OwedParts.{IsToldAt}
-use Rattle.cd_context.proofs.Owed.{deads_end, told_end}
+use Rattle.std.proofs.lemmas.List.{get_or_read}
+use Rattle.cd_base.specs.declared.normal.Normal.{Normal}
+use Rattle.cd_clause.specs.declared.elem.Elem.{Elem}
+use Rattle.cd_clause.specs.declared.elem.Elem.TheVariants.{Plain, Exist}
+use Rattle.cd_clause.specs.Elements.{IsGreatestAt}
+use Rattle.cd_context.proofs.Owed.{deads_end, atom_told, none_told}
 use Rattle.cd_context.proofs.notes.tell.Goals as goal
 
-pub returns-then-count-eq0 : goal.returns-then-count-eq0
-returns-then-count-eq0 c =
+pub returns-in_default : goal.returns-in_default
+returns-in_default c =
+    deads_end c.args.index.now.normal c.args.key.now c.args.links.now c.args.clause.now (IsOk c.tell_deads.result) c.args.out.now.items c.tell_deads.new.out.items
+    c.in_default.ensures c.tell_deads.ensures
+
+pub returns-in-Exist : goal.returns-in-Exist
+returns-in-Exist c =
     let clause = c.args.clause.now in
-    let short : length clause ≡ 0 = sym (ap length c.elems-count.ensures.elems) ∙ c.if-count-eq0.true in
-    deads_end c.args.index.now.normal c.args.key.now c.args.links.now clause (IsOk c.tell_deads.result) c.args.out.now.items c.tell_deads.new.out.items
-    (nil_from_length clause short) c.tell_deads.ensures
+    let i = c.in-Some.i in
+    let g : IsGreatestAt c.args.index.now.normal clause i = subst (λ (n : Normal). IsGreatestAt n clause i) c.normal.ensures c.in-Some.ensures in
+    let at : get_or clause i (Plain 0) ≡ Exist c.in-Exist.field-0 c.in-Exist.field-1
+    = subst (λ (l : List Elem). get_or l i (Plain 0) ≡ Exist c.in-Exist.field-0 c.in-Exist.field-1) c.elems.ensures.elems
+    (sym (get_or_read c.elems.result.now i c.index-elems-i.result (subst (λ (l : List Elem). i < length l) (sym c.elems.ensures.elems) g.within) c.index-elems-i.is (Plain 0)) ∙ c.in-Exist.is) in
+    none_told c.args.index.now.normal c.args.key.now clause i g c.args.links.now c.in-Exist.field-0 c.in-Exist.field-1 (true ≡ true) c.args.out.now.items at
 
-pub places-init : goal.places-init
-places-init c = below_begins (IsToldAt c.args.index.now.normal c.args.key.now c.args.links.now c.args.clause.now) c.args.out.now.items
-
-pub returns-in_err-tell_at : goal.returns-in_err-tell_at
-returns-in_err-tell_at c =
-    let Q = IsToldAt c.args.index.now.normal c.args.key.now c.args.links.now c.args.clause.now in
-    let count = length c.elems-count.result.now in
-    told_end c.args.index.now.normal c.args.key.now c.args.links.now c.args.clause.now count (IsOk c.from_residual.result) (IsOk c.from_residual.result) c.args.out.now.items c.tell_at.new.out.items
-    (ap length c.elems-count.ensures.elems) (λ e. grind (arith, e)) (λ h. h)
-    (below_stops member_grows Q c.places.i count (IsOk c.tell_at.result) (IsOk c.from_residual.result) c.args.out.now.items c.places.out.items c.tell_at.new.out.items
-    c.places.invariant (grind arith) c.tell_at.ensures (failed c.from_residual.result c.from_residual.ensures.0))
-
-pub places-preserved : goal.places-preserved
-places-preserved c =
-    below_goes member_grows (IsToldAt c.args.index.now.normal c.args.key.now c.args.links.now c.args.clause.now) c.places.i (true ≡ true) c.args.out.now.items c.places.out.items c.tell_at.new.out.items
-    c.places.invariant c.in_ok-tell_at.ensures refl
-
-pub returns : goal.returns
-returns c =
-    let Q = IsToldAt c.args.index.now.normal c.args.key.now c.args.links.now c.args.clause.now in
-    let count = length c.elems-count.result.now in
-    let all : c.places.i ≡ count = grind arith in
-    told_end c.args.index.now.normal c.args.key.now c.args.links.now c.args.clause.now count (Unit {0}) (true ≡ true) c.args.out.now.items c.places.out.items
-    (ap length c.elems-count.ensures.elems) (λ e. grind (arith, e)) (λ h. tt)
-    (subst (λ (k : ℕ). Appends OneOf (OfBelow Q k) (Unit {0}) c.args.out.now.items c.places.out.items) all c.places.invariant)
+pub returns-in-Plain : goal.returns-in-Plain
+returns-in-Plain c =
+    let clause = c.args.clause.now in
+    let i = c.in-Some.i in
+    let g : IsGreatestAt c.args.index.now.normal clause i = subst (λ (n : Normal). IsGreatestAt n clause i) c.normal.ensures c.in-Some.ensures in
+    let at : get_or clause i (Plain 0) ≡ Plain c.in-Plain.atom
+    = subst (λ (l : List Elem). get_or l i (Plain 0) ≡ Plain c.in-Plain.atom) c.elems.ensures.elems
+    (sym (get_or_read c.elems.result.now i c.index-elems-i.result (subst (λ (l : List Elem). i < length l) (sym c.elems.ensures.elems) g.within) c.index-elems-i.is (Plain 0)) ∙ c.in-Plain.is) in
+    atom_told c.args.index.now.normal c.args.key.now clause i g c.args.links.now c.in-Plain.atom c.is_single-alone.result (IsOk c.tell_atom.result) c.args.out.now.items c.tell_atom.new.out.items
+    at c.is_single-alone.ensures c.tell_atom.ensures

@@ -1,4 +1,4 @@
-use Rattle.std.proofs.Common.{[], ◌∙◌, ap, filter, List, ℕ, inl, inr, subst}
+use Rattle.std.proofs.Common.{◌∙◌, ap, filter, List, ℕ, inl, inr, subst}
 use Rattle.std.proofs.lemmas.Result.{IfOk-weaker}
 use Rattle.cd_base.specs.Keys.{is_named}
 use Rattle.cd_base.specs.Lists.{OneOf}
