@@ -1,14 +1,17 @@
 -- Existentials of a clause, which are above its atoms.
-use Rattle.std.proofs.Common.{◌≡◌, ◌⊎◌, ◌++◌, ◌↔◌, ℕ, zero, suc, ◌+◌, ◌-◌, ◌==◌, Bool, true, false, List, [], ◌∷◌, length, get_or, refl, sym, ◌∙◌, subst, inl, inr, arith}
+use Rattle.std.proofs.Common.{◌≡◌, ◌⊎◌, ◌++◌, ◌↔◌, ℕ, zero, suc, ◌+◌, ◌-◌, ◌<◌, ◌≤◌, ◌==◌, Bool, true, false, List, [], ◌∷◌, length, get_or, refl, sym, ◌∙◌, subst, inl, inr, arith}
 use Rattle.std.proofs.lemmas.Bool.{false≢true}
-use Rattle.cd_base.specs.Lists.{OneOf}
+use Rattle.std.specs.List.{remove}
+use Rattle.cd_base.specs.Lists.{OneOf, SameSet}
 use Rattle.cd_base.specs.Ascending.{Ascending}
 use Rattle.cd_base.specs.declared.normal.Normal.{Normal}
-use Rattle.cd_base.proofs.Members.{member_get, member_cases, member_left, member_right}
-use Rattle.cd_clause.specs.Elements.{Eligible, is_before}
+use Rattle.cd_base.proofs.Members.{member_at, member_get, member_cases, member_left, member_right}
+use Rattle.cd_clause.specs.Elements.{Eligible, is_before, rest}
+use Rattle.cd_clause.proofs.Elements.{member_rest, rest_member}
 use Rattle.cd_clause.proofs.Eligibles.{eligible_one}
 use Rattle.cd_clause.specs.declared.elem.Elem.{Elem}
 use Rattle.cd_clause.specs.declared.elem.Elem.TheVariants.{Plain, Exist}
+use Rattle.cd_rules.proofs.Without.{without_rest}
 
 -- the element is an existential
 abbrev IsExist : Elem → Type 0
@@ -66,3 +69,21 @@ pushed_atom n c a old new el e b = (
   where
     same_atom : (a b : ℕ) → Plain a ≡ Plain b → a ≡ b
     same_atom a b e = cc
+
+-- an atom that stands at no place isn't in the clause
+pub at_no_place : (es : List Elem) (a : ℕ) (n : ℕ) → length es ≤ n → ((k : ℕ) → k < n → get_or es k (Plain 0) ≡ Plain a → ⊥) → OneOf (Plain a) es → ⊥
+at_no_place es a n l h m =
+    let w = member_at (Plain a) es m in
+    h w.0 (omega (arith, w.1)) (w.2 (Plain 0))
+
+-- the clause without the place of an atom, and without an atom that isn't there
+pub without_place : (a : ℕ) (c es out : List Elem) (i : ℕ) → es ≡ c → Ascending is_before c → i < length es → get_or es i (Plain 0) ≡ Plain a → out ≡ remove c i → SameSet out (rest (Plain a) c)
+without_place a c es out i e s l q r =
+    let q' : get_or c i (Plain 0) ≡ Plain a = subst (λ z. get_or z i (Plain 0) ≡ Plain a) e q in
+    subst (λ z. SameSet z (rest (Plain a) c)) (sym r) (subst (λ z. SameSet (remove c i) (rest z c)) q' (without_rest c i s (subst (λ z. i < length z) e l)))
+
+pub without_none : (a : ℕ) (c es out : List Elem) → es ≡ c → (OneOf (Plain a) es → ⊥) → out ≡ c → SameSet out (rest (Plain a) c)
+without_none a c es out e f r = (
+  λ x m. (let k = subst (OneOf x) r m in member_rest (Plain a) x c k (λ q. f (subst (OneOf (Plain a)) (sym e) (subst (λ w. OneOf w c) (sym q) k)))),
+  λ x m. subst (OneOf x) (sym r) (rest_member (Plain a) x c m).0,
+)

@@ -1,8 +1,8 @@
 pub mod Alls
 pub mod Among
 pub mod Backs
-pub mod ConChoices
 pub mod ConNumbers
+pub mod ConPartners
 pub mod ConPlaces
 pub mod Counted
 pub mod Deads
@@ -17,12 +17,12 @@ pub mod Greatest
 pub mod Inits
 pub mod Literals
 pub mod Others
-pub mod PickedAt
 pub mod Premises
 pub mod Pushed
 pub mod SameSets
 pub mod Searched
 pub mod Sures
 pub mod Tried
+pub mod Unions
 pub mod Using
 pub mod Without

@@ -1,32 +1,23 @@
 -- The axioms that the rule Con tries: those that are filed under atoms at hand.
-use Rattle.std.proofs.Common.{◌≡◌, ◌≢◌, ◌↔◌, ◌==◌, ℕ, zero, suc, ◌<◌, ◌≤◌, true, false, not, List, [], ◌∷◌, length, get_or, refl, sym, ◌∙◌, subst, inl, inr, arith, eqb, eq-eqb, eqb-true}
+use Rattle.std.proofs.Common.{◌≡◌, ◌≢◌, ◌↔◌, ◌==◌, ℕ, zero, suc, ◌<◌, ◌≤◌, true, false, not, List, [], ◌∷◌, ◌++◌, ◌+◌, map, length, get_or, refl, sym, ◌∙◌, subst, inl, inr, arith, eqb, eq-eqb, eqb-true}
 use Rattle.std.specs.Prelude.{nat_lt}
 use Rattle.std.specs.List.{Contains, dedup}
 use Rattle.std.specs.List.Sorted.{IsPermutation}
 use Rattle.std.proofs.lemmas.List.Kept.{Contains-dedup_nat, Contains-from_dedup}
 use Rattle.std.proofs.lemmas.List.Sorted.{Contains-permutation, IsPermutation-sym}
-use Rattle.std.proofs.lemmas.Bool.{and_from, cond-true, lt-ltb, ne_eqb, not_from_false}
+use Rattle.std.proofs.lemmas.Bool.{and_from, cases_eq, cond-true, lt-ltb, ne_eqb, not_from_false}
 use Rattle.std.proofs.lemmas.List.{get_or_read, nil_from_length}
 use Rattle.cd_base.specs.Lists.{OneOf}
 use Rattle.cd_base.specs.declared.normal.Conj.{Conj}
 use Rattle.cd_base.specs.declared.normal.Normal.{Normal}
-use Rattle.cd_base.proofs.Members.{any_by_member, any_member, member_at, member_cases, member_get, member_left, member_right}
-use Rattle.cd_clause.specs.Elements.{Eligible}
-use Rattle.cd_clause.specs.declared.elem.Elem.{Elem}
-use Rattle.cd_clause.specs.declared.elem.Elem.TheVariants.{Plain}
+use Rattle.cd_base.proofs.Members.{any_by_member, any_member, map_member, member_at, member_cases, member_get, member_left, member_map, member_right}
 use Rattle.cd_index.specs.Index.{IsFiling, has, is_filed, is_free, left_of}
 use Rattle.cd_index.proofs.Filing.{atom_below}
-use Rattle.cd_rules.specs.Candidates.{AreAtHand, AreCandidates, AreFiledWith, IsAtHand}
-use Rattle.cd_rules.specs.Facts.{IsPicked}
-use Rattle.cd_rules.specs.LookUps.{filed_at}
-use Rattle.cd_rules.specs.Steps.{IsWithoutOne}
-use Rattle.cd_rules.proofs.PickedAt.{at_picked, picked_at}
-use Rattle.cd_rules.proofs.Gathered.{HasGathered, gather_ends}
+use Rattle.cd_rules.specs.declared.partners.Partner.{Partner}
+use Rattle.cd_rules.specs.Candidates.{AreAtHand, AreCandidates, AreFiledWith, HasWide}
+use Rattle.cd_rules.specs.LookUps.{AreNumbers, filed_at}
+use Rattle.cd_rules.proofs.ConNumbers.{left_at, on_left}
 use Rattle.cd_rules.proofs.Found.{number_found}
-
--- b is eligible in the clause of the number at place k
-abbrev pub InChoice : Normal → List (List Elem) → List ℕ → ℕ → ℕ → Type 0
-InChoice n clauses choices k b = Eligible n (Plain b) (get_or clauses (get_or choices k 0) [])
 
 -- k is the number at place i, of an axiom with the atom on the left
 abbrev pub OfFound : List Conj → List ℕ → ℕ → ℕ → ℕ → Type 0
@@ -61,20 +52,18 @@ once_each xs ys p b = (
 
 -- ---- the atoms at hand
 
-in_a_choice : (n : Normal) (clauses : List (List Elem)) (choices : List ℕ) (b : ℕ)
-    → ((k : ℕ) × (k < length choices) × InChoice n clauses choices k b) ↔ ((c : List Elem) × IsPicked clauses choices c × Eligible n (Plain b) c)
-in_a_choice n clauses choices b = (
-  λ q. (get_or clauses (get_or choices q.0 0) [], picked_at clauses choices q.0 q.1, q.2),
-  λ q. (let w = at_picked clauses choices q.0 q.1 in (w.0, w.1, subst (Eligible n (Plain b)) w.2 q.2)),
+pub all_at_hand : (partners : List Partner) (atom x : ℕ) (of atoms out : List ℕ) → of ≡ map (λ (p : Partner). p.atom) partners → x ≡ atom → atoms ≡ of ++ x ∷ []
+    → ((b : ℕ) → OneOf b out ↔ OneOf b atoms) → AreAtHand partners atom out
+all_at_hand partners atom x of atoms out e f g same b = (
+  λ m. elim (member_cases b of (x ∷ []) (subst (OneOf b) g ((same b).0 m))) [
+    | inl k ↦ (let w = map_member (λ (p : Partner). p.atom) b partners (subst (OneOf b) e k) in inr (w.0, w.1, sym w.2))
+    | inr k ↦ elim k [ inl q ↦ inl (q ∙ f) | inr z ↦ absurd z ]
+  ],
+  λ h. (same b).1 (subst (OneOf b) (sym g) (elim h [
+    | inl q ↦ member_right b of (x ∷ []) (inl (q ∙ sym f))
+    | inr q ↦ member_left b of (x ∷ []) (subst (OneOf b) (sym e) (subst (λ w. OneOf w (map (λ (p : Partner). p.atom) partners)) q.2 (member_map (λ (p : Partner). p.atom) q.0 partners q.1)))
+  ])),
 )
-
-pub all_at_hand : (n : Normal) (clauses : List (List Elem)) (choices : List ℕ) (atom i : ℕ) (atoms out : List ℕ) → HasGathered (InChoice n clauses choices) i (atom ∷ []) atoms
-    → i ≡ length choices → ((b : ℕ) → OneOf b out ↔ OneOf b atoms) → AreAtHand n (IsPicked clauses choices) atom out
-all_at_hand n clauses choices atom i atoms out w e same b =
-    let g = gather_ends (InChoice n clauses choices) i (length choices) (atom ∷ []) atoms (λ a. (c : List Elem) × IsPicked clauses choices c × Eligible n (Plain a) c) w e (in_a_choice n clauses choices) b in (
-      λ m. elim (g.0 ((same b).0 m)) [ inl o ↦ elim o [ inl is ↦ inl is | inr z ↦ absurd z ] | inr p ↦ inr p ],
-      λ q. (same b).1 (g.1 (elim q [ inl is ↦ inl (inl is) | inr p ↦ inr p ])),
-    )
 
 -- ---- numbers of axioms that are filed
 
@@ -124,21 +113,41 @@ filed_there n filed filing k l some =
           (number_found n.n1 (λ (j : ℕ). is_filed n.n1 filing.chosen a j) k l (and_from (not (is_free n.n1 k)) (a == a) (not_from_false (is_free n.n1 k) not_free) (eq-eqb a a refl)))),
     )
 
-module _ (n : Normal) (Has : List Elem → Type 0) (atom : ℕ) (filed : List (List ℕ)) (atoms numbers : List ℕ) (filing : atom < n.atoms → IsFiling n.n1 n.atoms filed)
-    (hand : AreAtHand n Has atom atoms) (with_atom : AreFiledWith n.n1 filed n.atoms atoms atom numbers) where
-  -- each atom of a left side is the atom, or one of the others
-  on_left : (left taken : List ℕ) → IsWithoutOne atom left taken → ((b : ℕ) → OneOf b taken → IsAtHand n Has atom b) → (b : ℕ) → OneOf b left → IsAtHand n Has atom b
-  on_left left taken w h b m = elim (member_cases b w.0 (atom ∷ w.1) (subst (OneOf b) w.2 m)) [
-    | inl q ↦ h b (subst (OneOf b) (sym w.3) (member_left b w.0 w.1 q))
-    | inr q ↦ elim q [ inl e ↦ inl e | inr z ↦ h b (subst (OneOf b) (sym w.3) (member_right b w.0 w.1 z)) ]
-  ]
-
-  pub filed_try : AreCandidates n Has atom numbers
+module _ (n : Normal) (partners : List Partner) (atom : ℕ) (filed : List (List ℕ)) (atoms numbers : List ℕ) (filing : atom < n.atoms → IsFiling n.n1 n.atoms filed)
+    (hand : AreAtHand partners atom atoms) (with_atom : AreFiledWith n.n1 filed n.atoms atoms atom numbers) where
+  pub filed_try : AreCandidates n.n1 partners atom numbers
   filed_try = record {
     in_range = λ k m. number_below n.n1 k atom ((with_atom k).0 m).3;
     every = λ k l taken w h.
         let there : OneOf atom (left_of n.n1 k) = subst (OneOf atom) (sym w.2) (member_right atom w.0 (atom ∷ w.1) (inl refl)) in
         let f : IsFiling n.n1 n.atoms filed = filing (left_below n k atom there) in
         let at = filed_there n filed f k l (λ e. absurd (subst (OneOf atom) e there)) in
-        (with_atom k).1 (f.chosen k, (hand (f.chosen k)).1 (on_left (left_of n.n1 k) taken w h (f.chosen k) at.0), at.1, there);
+        (with_atom k).1 (f.chosen k, (hand (f.chosen k)).1 (on_left partners atom (left_of n.n1 k) taken w h (f.chosen k) at.0), at.1, there);
   }
+
+-- ---- axioms with another atom on the left
+
+-- the axiom at a place of the numbers has one
+pub found_wide : (axioms : List Conj) (numbers : List ℕ) (i : ℕ) (x : Conj) → AreNumbers axioms numbers → i < length numbers → x ≡ get_or axioms (get_or numbers i 0) x → 1 < length x.left → HasWide axioms numbers
+found_wide axioms numbers i x within l r w =
+    let k : ℕ = get_or numbers i 0 in
+    let m : OneOf k numbers = member_get numbers i 0 l in
+    (k, m, subst (λ (y : List ℕ). 1 < length y) (sym (left_at axioms k x (within k m) (sym r))) w)
+
+-- those below a place have none
+abbrev pub AreNarrow : List Conj → List ℕ → ℕ → Type 0
+AreNarrow axioms numbers i = (k : ℕ) → k < i → k < length numbers → 1 < length (left_of axioms (get_or numbers k 0)) → ⊥
+
+pub narrow_more : (axioms : List Conj) (numbers : List ℕ) (i : ℕ) (x : Conj) → AreNumbers axioms numbers → i < length numbers → x ≡ get_or axioms (get_or numbers i 0) x
+    → AreNarrow axioms numbers i → (1 < length x.left → ⊥) → AreNarrow axioms numbers (i + 1)
+narrow_more axioms numbers i x within l r w f k lt m wide = elim (cases_eq k i) [
+  | inl e ↦ (
+      let j : ℕ = get_or numbers i 0 in
+      f (subst (λ (y : List ℕ). 1 < length y) (left_at axioms j x (within j (member_get numbers i 0 l)) (sym r)) (subst (λ z. 1 < length (left_of axioms (get_or numbers z 0))) e wide)))
+  | inr differ ↦ w k (omega (arith, lt)) m wide
+]
+
+pub no_wide : (axioms : List Conj) (numbers : List ℕ) (i : ℕ) → length numbers ≤ i → AreNarrow axioms numbers i → HasWide axioms numbers → ⊥
+no_wide axioms numbers i l w (k, m, wide) =
+    let p = member_at k numbers m in
+    w p.0 (omega (arith, p.1)) p.1 (subst (λ z. 1 < length (left_of axioms z)) (sym (p.2 0)) wide)

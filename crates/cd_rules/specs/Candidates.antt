@@ -1,30 +1,28 @@
 -- Which axioms the rule Con tries for an atom.
-use Rattle.std.specs.Prelude.{◌≡◌, ℕ, ◌<◌, ◌+◌, ◌⊎◌, ◌↔◌, List, [], ◌∷◌, length}
+use Rattle.std.specs.Prelude.{ℕ, ◌<◌, ◌+◌, ◌↔◌, List, [], ◌∷◌, length}
 use Rattle.cd_base.specs.Lists.{OneOf}
 use Rattle.cd_base.specs.declared.normal.Conj.{Conj}
-use Rattle.cd_base.specs.declared.normal.Normal.{Normal}
-use Rattle.cd_clause.specs.declared.elem.Elem.{Elem}
-use Rattle.cd_clause.specs.declared.elem.Elem.TheVariants.{Plain}
-use Rattle.cd_clause.specs.Elements.{Eligible}
 use Rattle.cd_index.specs.Index.{left_of}
 use Rattle.cd_rules.specs.LookUps.{AreNumbers, filed_at}
 use Rattle.cd_rules.specs.Steps.{IsWithoutOne}
-
--- b is the atom, or eligible in a clause that is had
-abbrev pub IsAtHand : Normal → (List Elem → Type 0) → ℕ → ℕ → Type 0
-IsAtHand n Has atom b = (b ≡ atom) ⊎ ((c : List Elem) × Has c × Eligible n (Plain b) c)
+use Rattle.cd_rules.specs.declared.partners.Partner.{Partner}
+use Rattle.cd_rules.specs.Partners.{IsAtHand}
 
 -- these number axioms, among them each axiom with the atom on the left whose other left atoms are at hand
-pub record AreCandidates (n : Normal) (Has : List Elem → Type 0) (atom : ℕ)
+pub record AreCandidates (axioms : List Conj) (partners : List Partner) (atom : ℕ)
     (numbers : List ℕ) : Type 0 where
-  pub in_range : AreNumbers n.n1 numbers
-  pub every : (k : ℕ) → k < length n.n1 → (taken : List ℕ)
-      → IsWithoutOne atom (left_of n.n1 k) taken
-      → ((b : ℕ) → OneOf b taken → IsAtHand n Has atom b) → OneOf k numbers
+  pub in_range : AreNumbers axioms numbers
+  pub every : (k : ℕ) → k < length axioms → (taken : List ℕ)
+      → IsWithoutOne atom (left_of axioms k) taken
+      → ((b : ℕ) → OneOf b taken → IsAtHand partners atom b) → OneOf k numbers
 
 -- these are the atoms at hand
-abbrev pub AreAtHand : Normal → (List Elem → Type 0) → ℕ → List ℕ → Type 0
-AreAtHand n Has atom atoms = (b : ℕ) → OneOf b atoms ↔ IsAtHand n Has atom b
+abbrev pub AreAtHand : List Partner → ℕ → List ℕ → Type 0
+AreAtHand partners atom atoms = (b : ℕ) → OneOf b atoms ↔ IsAtHand partners atom b
+
+-- one of these axioms has another atom on the left too
+abbrev pub HasWide : List Conj → List ℕ → Type 0
+HasWide axioms numbers = (k : ℕ) × OneOf k numbers × (1 < length (left_of axioms k))
 
 -- these number the axioms that are filed under one of the atoms and have this atom on the left
 abbrev pub AreFiledWith : List Conj → List (List ℕ) → ℕ → List ℕ → ℕ → List ℕ → Type 0

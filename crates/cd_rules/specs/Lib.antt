@@ -3,6 +3,7 @@ pub mod Candidates
 pub mod Elems
 pub mod Facts
 pub mod LookUps
+pub mod Partners
 pub mod Parts
 pub mod Steps
 pub mod Uses

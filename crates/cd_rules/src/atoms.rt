@@ -1,4 +1,4 @@
-//! Clauses by number, and atoms that are the greatest elements of clauses.
+//! Atoms of clauses, and those that are their greatest elements.
 ghost use Rattle.std.specs.Prelude.{◌≡◌, ◌<◌, ◌⊎◌, ◌↔◌, ◌++◌, ℕ, List, [], length, slice_index_or, true, IfOk, OnOk, MatchOption};
 ghost use Rattle.cd_base.specs.Lists.{OneOf, SameSet};
 ghost use Rattle.cd_clause.specs.Elements.{Eligible, rest};
@@ -7,33 +7,14 @@ ghost use Rattle.cd_clause.specs.declared.elem.Elem.TheVariants.{Plain, Exist};
 use cd_base::{Atom, Memory, Normal};
 use cd_clause::{Clause, Elem, greatest};
 
-/// The clause whose number is the choice at place `i`. Constant time.
-pub(crate) fn clause_at<'a>(clauses: &'a [Clause], choices: &[usize], i: usize) -> &'a Clause
-    requires choices { (k : ℕ) → OneOf k choices.now → k < length clauses.now }
-    requires i { i < length choices.now }
-    ensures { result.now ≡ slice_index_or clauses.now (slice_index_or choices.now i 0) [] }
+/// The clause without this atom. Linear in the clause.
+pub(crate) fn without_atom(clause: &Clause, atom: Atom) -> Result<Clause, Memory>
+    ensures { IfOk result (λ others. SameSet others (rest (Plain atom) clause.now)) }
 {
-    &clauses[choices[i]]
-}
-
-/// The clause without the atom where that is its greatest element, and else nothing. Linear in the clause.
-pub(crate) fn rest_without_atom(
-    clause: &Clause,
-    atom: Atom,
-    normal: &Normal,
-) -> Result<Option<Clause>, Memory>
-    ensures { IfOk result (λ found.
-        MatchOption found (Eligible normal.now (Plain atom) clause.now → ⊥)
-        (λ others. Eligible normal.now (Plain atom) clause.now
-        × SameSet others (rest (Plain atom) clause.now))) }
-{
-    let Some(i) = greatest(clause, normal) else {
-        return Ok(None);
-    };
-    if !is_atom(&clause.elems()[i], atom) {
-        return Ok(None);
+    match place_of(clause.elems(), atom) {
+        None => clause.copy(),
+        Some(i) => clause.without(i),
     }
-    Ok(Some(clause.without(i)?))
 }
 
 /// Appends the atom that is the greatest element of the clause, where that is an atom. As `greatest_atom`.
@@ -85,6 +66,19 @@ fn is_existential(elem: &Elem) -> bool
         Elem::Plain(_) => false,
         Elem::Exist(_, _) => true,
     }
+}
+
+/// The place at which the atom stands. Linear in the elements.
+fn place_of(elems: &[Elem], atom: Atom) -> Option<usize>
+    ensures { MatchOption result (OneOf (Plain atom) elems.now → ⊥)
+        (λ i. (i < length elems.now) × (slice_index_or elems.now i (Plain 0) ≡ Plain atom)) }
+{
+    'places: for i in 0..elems.len() {
+        if is_atom(&elems[i], atom) {
+            return Some(i);
+        }
+    }
+    None
 }
 
 /// Whether the element is this atom. Constant time.

@@ -1,16 +1,15 @@
 //! Which axioms the rule Con tries for an atom.
-ghost use Rattle.std.specs.Prelude.{◌≡◌, ◌<◌, ◌⊎◌, ◌↔◌, ℕ, length, true, IfOk, IfSome, OnOk};
+ghost use Rattle.std.specs.Prelude.{◌≡◌, ◌<◌, ◌⊎◌, ◌↔◌, ℕ, length, map, true, IfOk, IfSome, OnOk};
 ghost use Rattle.std.specs.List.Sorted.{IsStrictlyIncreasing};
 ghost use Rattle.cd_base.specs.Lists.{OneOf};
 ghost use Rattle.cd_index.specs.Index.{left_of};
-ghost use Rattle.cd_rules.specs.Candidates.{AreAtHand, AreCandidates, AreFiledWith, filed_count};
-ghost use Rattle.cd_rules.specs.Facts.{IsPicked};
-ghost use Rattle.cd_rules.specs.LookUps.{filed_at};
+ghost use Rattle.cd_rules.specs.Candidates.{AreAtHand, AreCandidates, AreFiledWith, HasWide, filed_count};
+ghost use Rattle.cd_rules.specs.LookUps.{AreNumbers, filed_at};
+ghost use Rattle.cd_rules.specs.declared.partners.Partner.{Partner};
 
-use crate::atoms::{clause_at, push_eligible};
 use crate::look_ups::filed;
-use cd_base::{Atom, Conj, Memory, Normal};
-use cd_clause::Clause;
+use crate::partners::Partner;
+use cd_base::{Atom, Conj, Memory};
 use cd_index::Index;
 use std::alloc::Global;
 
@@ -19,25 +18,23 @@ const FEW: usize = 8;
 
 /// The axioms to try for the atom, found by the atoms under which they are filed, where these are fewer than `limit`.
 ///
-/// Constant time where `limit` is small or no more than what is filed under `atom`. Else a walk over the choices, and `n log n` in the atoms
-/// that are eligible in them, and then a look at the left side of each axiom that is filed there, if they are fewer.
+/// Constant time where `limit` is small or no more than what is filed under `atom`. Else `n log n` in the partners, and then a look at the
+/// left side of each axiom that is filed under one of their atoms, if they are fewer.
 pub(crate) fn candidates(
     alloc: Global,
     index: &Index,
-    clauses: &[Clause],
-    choices: &[usize],
+    partners: &[Partner],
     atom: Atom,
     limit: usize,
 ) -> Result<Option<Vec<usize>>, Memory>
-    requires choices { (k : ℕ) → OneOf k choices.now → k < length clauses.now }
     ensures { IfOk result (λ found.
-        IfSome found (λ numbers. AreCandidates index.now.normal
-        (IsPicked clauses.now choices.now) atom numbers.items)) }
+        IfSome found (λ numbers. AreCandidates index.now.normal.n1 partners.now atom
+        numbers.items)) }
 {
     if limit <= FEW || filed(index, atom).len() >= limit {
         return Ok(None);
     }
-    let atoms = atoms_at_hand(alloc, index.normal(), clauses, choices, atom)?;
+    let atoms = atoms_at_hand(alloc, partners, atom)?;
     if !are_fewer(index, atoms.as_slice(), limit) {
         return Ok(None);
     }
@@ -45,27 +42,25 @@ pub(crate) fn candidates(
     Ok(Some(numbers))
 }
 
-/// The atom and those that are eligible in the clauses, ascending and each once.
-///
-/// A walk over the choices, and `n log n` in the atoms.
-fn atoms_at_hand(
-    alloc: Global,
-    normal: &Normal,
-    clauses: &[Clause],
-    choices: &[usize],
-    atom: Atom,
-) -> Result<Vec<u32>, Memory>
-    requires choices { (k : ℕ) → OneOf k choices.now → k < length clauses.now }
-    ensures exact { IfOk result (λ atoms.
-        AreAtHand normal.now (IsPicked clauses.now choices.now) atom atoms.items) }
+/// The atom and those of the partners, ascending and each once. `n log n` in the partners.
+fn atoms_at_hand(alloc: Global, partners: &[Partner], atom: Atom) -> Result<Vec<u32>, Memory>
+    ensures exact { IfOk result (λ atoms. AreAtHand partners.now atom atoms.items) }
     ensures ascends { IfOk result (λ atoms. IsStrictlyIncreasing atoms.items) }
 {
-    let mut atoms = Vec::new(alloc);
+    let mut atoms = atoms_of(alloc, partners)?;
     atoms.push(atom.number())?;
-    'choices: for i in 0..choices.len() {
-        push_eligible(clause_at(clauses, choices, i), normal, &mut atoms)?;
-    }
     put_in_order(&mut atoms);
+    Ok(atoms)
+}
+
+/// The atoms of the partners. Linear in them.
+fn atoms_of(alloc: Global, partners: &[Partner]) -> Result<Vec<u32>, Memory>
+    ensures { IfOk result (λ atoms. atoms.items ≡ map (λ (p : Partner). p.atom) partners.now) }
+{
+    let atoms = partners
+        .iter()
+        .map(|partner| partner.atom.number())
+        .collect::<Vec<u32>>(alloc)?;
     Ok(atoms)
 }
 
@@ -129,6 +124,20 @@ fn push_filed(
         }
     }
     Ok(())
+}
+
+/// Whether one of the axioms with these numbers has another atom on the left too. Linear in the numbers before the first such axiom.
+pub(crate) fn has_wide(axioms: &[Conj], numbers: &[usize]) -> bool
+    requires { AreNumbers axioms.now numbers.now }
+    ensures { (result ≡ true) ↔ HasWide axioms.now numbers.now }
+{
+    'numbers: for i in 0..numbers.len() {
+        let conj = &axioms[numbers[i]];
+        if 1 < conj.left.items().len() {
+            return true;
+        }
+    }
+    false
 }
 
 /// Whether the atom is on the left of the axiom. Linear in the left side.

@@ -17,6 +17,7 @@ mod facts;
 mod init;
 pub mod look_ups;
 mod neg;
+mod partners;
 mod premise;
 mod sure;
 

@@ -3,7 +3,7 @@ use Rattle.std.proofs.lemmas.Result.{IfOk-weaker}
 use Rattle.cd_base.specs.Lists.{SameSet}
 use Rattle.cd_clause.specs.declared.elem.Elem.{Elem}
 use Rattle.cd_clause.specs.declared.elem.Elem.TheVariants.{Plain}
-use Rattle.cd_rules.proofs.ConChoices.{same_right, with_one}
+use Rattle.cd_rules.proofs.Unions.{same_right, with_one}
 use Rattle.cd_rules.proofs.Pushed.{same_trans}
 use Rattle.cd_rules.proofs.con.with_atoms.Goals as goal
 
