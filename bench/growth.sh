@@ -5,7 +5,8 @@
 #
 #   bench/growth.sh [form ..]
 #
-# The forms: generated, disjoint, operands, roles, flat, chain, universals, closing, fillers, sources. Without words all of them.
+# The forms: generated, disjoint, operands, roles, flat, chain, universals, closing, fillers, sources, intersection, union, choices,
+# pigeonholes, levels, levels_down. Without words all of them.
 set -eu
 . "$(dirname "$0")/measure.sh"
 
@@ -111,6 +112,71 @@ sources() {
   }'
 }
 
+# A class below n classes, and what is in all of these is in B.
+intersection() {
+  awk -v n="$1" 'BEGIN {
+    print "Ontology(\nSubClassOf(ObjectIntersectionOf("
+    for (i = 0; i < n; i++) printf "<x:C%d>\n", i
+    print ") <x:B>)"
+    for (i = 0; i < n; i++) printf "SubClassOf(<x:A> <x:C%d>)\n", i
+    print ")"
+  }'
+}
+
+# A class below the union of n classes, which are all below one.
+union() {
+  awk -v n="$1" 'BEGIN {
+    print "Ontology(\nSubClassOf(<x:A> ObjectUnionOf("
+    for (i = 0; i < n; i++) printf "<x:C%d>\n", i
+    print "))"
+    for (i = 0; i < n; i++) printf "SubClassOf(<x:C%d> <x:Top>)\n", i
+    print ")"
+  }'
+}
+
+# A class with one existential, whose filler is n times below a union of two.
+choices() {
+  awk -v n="$1" 'BEGIN {
+    print "Ontology(\nSubClassOf(<x:A> ObjectSomeValuesFrom(<x:r> <x:B>))"
+    for (i = 0; i < n; i++) printf "SubClassOf(<x:B> ObjectUnionOf(<x:L%d> <x:R%d>))\n", i, i
+    print ")"
+  }'
+}
+
+# n pigeons, each in one of n - 1 holes, no two of them in one: a class without a member, all places being named.
+pigeonholes() {
+  awk -v n="$1" 'BEGIN {
+    print "Ontology("
+    for (i = 0; i < n; i++) {
+      printf "SubClassOf(<x:A> ObjectUnionOf("
+      for (j = 0; j < n - 1; j++) printf "<x:P%dIn%d> ", i, j
+      print "))"
+    }
+    for (j = 0; j < n - 1; j++)
+      for (i = 0; i < n; i++)
+        for (k = 0; k < i; k++) printf "DisjointClasses(<x:P%dIn%d> <x:P%dIn%d>)\n", k, j, i, j
+    print ")"
+  }'
+}
+
+# n levels, each a class below the union of two that are both below the class of the next level, from the first level to the last.
+levels() {
+  awk -v n="$1" 'BEGIN {
+    print "Ontology("
+    for (i = 0; i < n; i++) printf "SubClassOf(<x:X%d> ObjectUnionOf(<x:L%d> <x:R%d>))\nSubClassOf(<x:L%d> <x:X%d>)\nSubClassOf(<x:R%d> <x:X%d>)\n", i, i, i, i, i + 1, i, i + 1
+    print ")"
+  }'
+}
+
+# The same, from the last level to the first.
+levels_down() {
+  awk -v n="$1" 'BEGIN {
+    print "Ontology("
+    for (i = n - 1; i >= 0; i--) printf "SubClassOf(<x:X%d> ObjectUnionOf(<x:L%d> <x:R%d>))\nSubClassOf(<x:L%d> <x:X%d>)\nSubClassOf(<x:R%d> <x:X%d>)\n", i, i, i, i, i + 1, i, i + 1
+    print ")"
+  }'
+}
+
 compare() {
   local small large
   "$1" "$2" >"$folder/small.ofn"
@@ -118,13 +184,13 @@ compare() {
   small=$(measure "$folder/small.ofn" "$program" classify)
   large=$(measure "$folder/large.ofn" "$program" classify)
   echo "$1 $2 $small $3 $large" | awk '{
-    printf "%-10s %6d %7.3f s %7.1f MB   %6d %7.3f s %7.1f MB   ratio %.1f\n", $1, $2, $3, $4 / 1024, $5, $6, $7 / 1024, ($3 > 0 ? $6 / $3 : 0)
+    printf "%-12s %6d %7.3f s %7.1f MB   %6d %7.3f s %7.1f MB   ratio %.1f\n", $1, $2, $3, $4 / 1024, $5, $6, $7 / 1024, ($3 > 0 ? $6 / $3 : 0)
   }'
 }
 
 for form in "${@:-all}"; do
   case $form in
-    all) exec "$0" generated disjoint operands roles flat chain universals closing fillers sources ;;
+    all) exec "$0" generated disjoint operands roles flat chain universals closing fillers sources intersection union choices pigeonholes levels levels_down ;;
     generated) compare generated 1250 5000; compare generated 5000 20000 ;;
     disjoint | operands | roles) compare "$form" 10000 40000 ;;
     flat) compare flat 25000 100000 ;;
@@ -132,6 +198,10 @@ for form in "${@:-all}"; do
     universals) compare universals 6 8 ;;
     closing) compare closing 100 400 ;;
     fillers | sources) compare "$form" 2500 10000 ;;
+    intersection | union) compare "$form" 1000 4000 ;;
+    choices) compare choices 8 16 ;;
+    pigeonholes) compare pigeonholes 4 5 ;;
+    levels | levels_down) compare "$form" 15 60 ;;
     *) echo "no form $form" >&2; exit 2 ;;
   esac
 done
